@@ -64,7 +64,7 @@ SENTENCES = [
 ]
 
 # Names that the first page has from several modules. There should be none: none is added, and one that is gone is taken out here.
-TWOFOLD = {'Carried', 'holds', 'least_holder'}
+TWOFOLD = set()
 
 # Headings in the field's words, by crate and module. A module that isn't here has the first sentence of its file.
 HEADINGS = {

@@ -6,9 +6,9 @@ use Rattle.std.proofs.lemmas.Bool.{and_parts, and_from, eq-eqb, eqb-true, false_
 use Rattle.std.proofs.lemmas.List.Sums.{position_or_len_is, passes_at_first}
 use Rattle.list_laws.specs.Lists.{joined, listed, only_if}
 use Rattle.job_session.specs.declared.source.Source.{Source}
-use Rattle.job_session.specs.declared.source.Source.TheVariants.{Given, Carried}
+use Rattle.job_session.specs.declared.source.Source.TheVariants.{Given, Earlier}
 use Rattle.job_session.specs.Sessions.{Slot, source}
-use Rattle.job_plan.specs.Plans.{Plan, session, slot, slots, least_holder, words_in, deals_in, opens_to}
+use Rattle.job_plan.specs.Plans.{Plan, session, slot, slots, holder_of, words_in, deals_in, opens_to}
 use Rattle.job_plan.specs.declared.key.Key.{Key}
 use Rattle.job_plan.specs.Messages.{messages, slot_messages, deal_message, input_messages, kept_messages, open_messages, product_messages}
 use Rattle.job_session.specs.Sessions.Slot.{Input, At_gate, Output, Mask, Mask_product, Masked, Kept}
@@ -80,14 +80,14 @@ module _ (P : Key → Type 0) (plan : Plan) (s k : ℕ) (h : (i p q : ℕ) → i
   every_row sender = every_joined P (length plan.groups) _ (λ i li. every_joined P plan.parties _ (λ q lq. every_one P _ _ (h i (sender i) q li)))
 
   every_open : (r : ℕ) → AllByRecursion P (open_messages plan s k r)
-  every_open r = every_joined P (length plan.groups) _ (λ i li. every_one P _ _ (h i (least_holder plan i) r li))
+  every_open r = every_joined P (length plan.groups) _ (λ i li. every_one P _ _ (h i (holder_of plan i) r li))
 
   every_product : (z : Slot) → AllByRecursion P (product_messages plan s k z)
   every_product z = every_joined P plan.parties _ (λ p lp. every_only_if P (deals_in plan s p z) _ (λ e. every_row (λ i. p)))
 
   every_input : (from : Source) → AllByRecursion P (input_messages plan s k from)
   every_input (Given p) = every_row (λ i. p)
-  every_input (Carried r c i) = tt
+  every_input (Earlier r c i) = tt
 
   every_kept : AllByRecursion P (kept_messages plan s k)
   every_kept = every_joined P (length plan.groups) _ (λ i li. every_joined P plan.parties _ (λ p lp. every_one P _ _ (h i p p li)))
@@ -96,7 +96,7 @@ module _ (P : Key → Type 0) (plan : Plan) (s k : ℕ) (h : (i p q : ℕ) → i
   every_summand (Input v) = every_input (source (session plan s) v)
   every_summand (At_gate t) = every_product (At_gate t)
   every_summand (Output o) = every_joined P plan.parties _ (λ r lr. every_only_if P (opens_to plan s r (Output o)) _ (λ e. every_open r))
-  every_summand (Mask t side) = every_row (least_holder plan)
+  every_summand (Mask t side) = every_row (holder_of plan)
   every_summand (Mask_product t) = every_product (Mask_product t)
   every_summand (Masked t side) = every_joined P plan.parties _ (λ r lr. every_open r)
   every_summand (Kept j) = every_kept
@@ -117,7 +117,7 @@ opens_distinct plan s k wanted =
 
 input_distinct : (plan : Plan) (s k : ℕ) (from : Source) → Distinct (input_messages plan s k from)
 input_distinct plan s k (Given p) = rows_distinct plan s k (λ i. p)
-input_distinct plan s k (Carried r c i) = tt
+input_distinct plan s k (Earlier r c i) = tt
 
 kept_distinct : (plan : Plan) (s k : ℕ) → Distinct (kept_messages plan s k)
 kept_distinct plan s k =
@@ -129,7 +129,7 @@ slot_distinct : (plan : Plan) (s k : ℕ) (z : Slot) → Distinct (slot_messages
 slot_distinct plan s k (Input v) = input_distinct plan s k (source (session plan s) v)
 slot_distinct plan s k (At_gate t) = product_distinct plan s k (At_gate t)
 slot_distinct plan s k (Output o) = opens_distinct plan s k (λ r. opens_to plan s r (Output o))
-slot_distinct plan s k (Mask t side) = rows_distinct plan s k (least_holder plan)
+slot_distinct plan s k (Mask t side) = rows_distinct plan s k (holder_of plan)
 slot_distinct plan s k (Mask_product t) = product_distinct plan s k (Mask_product t)
 slot_distinct plan s k (Masked t side) = opens_distinct plan s k (λ r. true)
 slot_distinct plan s k (Kept j) = kept_distinct plan s k

@@ -4,7 +4,7 @@ use Rattle.std.specs.Prelude.{slice_index_or}
 use Rattle.std.proofs.lemmas.Bool.{cases_lt, false≢true}
 use Rattle.std.proofs.lemmas.List.{get_or_past}
 use mathlib.Core.Logic.{inl, inr}
-use Rattle.job_session.specs.declared.source.Source.TheVariants.{Given, Carried}
+use Rattle.job_session.specs.declared.source.Source.TheVariants.{Given, Earlier}
 use Rattle.job_session.specs.Sessions.{carried_output, is_carried, no_kept, no_session, owners, source}
 use Rattle.job_session.specs.Sessions.Slot.{Kept}
 use Rattle.job_session.specs.Carries.{kept_place}
@@ -19,11 +19,11 @@ pub record IsKeptIn (plan : Plan) (s v r c i : ℕ) : Type 0 where
   pub wire : v < length (owners (session plan s))
   pub place : kept_place plan.sessions s v < length (session plan r).kept
   pub kept : slice_index_or (session plan r).kept (kept_place plan.sessions s v) no_kept
-      ≡ record { session = s; wire = v; output = carried_output (session plan r) (Carried r c i) }
+      ≡ record { session = s; wire = v; output = carried_output (session plan r) (Earlier r c i) }
   pub slot_there : keeping_slot plan s v r < slots plan r
   pub slot_is : slot plan r (keeping_slot plan s v r) ≡ Kept (kept_place plan.sessions s v)
 
-pub kept_in : (plan : Plan) → IsPlan plan → (s v r c i : ℕ) → source (session plan s) v ≡ Carried r c i → IsKeptIn plan s v r c i
+pub kept_in : (plan : Plan) → IsPlan plan → (s v r c i : ℕ) → source (session plan s) v ≡ Earlier r c i → IsKeptIn plan s v r c i
 kept_in plan is s v r c i e =
     let wire : v < length (owners (session plan s)) = elim (cases_lt v (length (owners (session plan s)))) [
       | inl l ↦ l

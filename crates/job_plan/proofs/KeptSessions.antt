@@ -9,8 +9,8 @@ use Rattle.list_laws.proofs.Totals.{total_eq, total_pick, total_swap, total_zero
 use Rattle.list_laws.proofs.JoinedLists.{joined_eq, length-joined, length-listed, listed_at}
 use Rattle.secret_sharing.specs.Schemes.{has_pair}
 use Rattle.job_session.specs.declared.source.Source.{Source}
-use Rattle.job_session.specs.declared.source.Source.TheVariants.{Given, Carried}
-use Rattle.job_session.specs.declared.values.Owner.TheVariants.{Carried as CarriedValue}
+use Rattle.job_session.specs.declared.source.Source.TheVariants.{Given, Earlier}
+use Rattle.job_session.specs.declared.values.Owner.TheVariants.{Carried}
 use Rattle.job_session.specs.declared.values.InputValue.{InputValue}
 use Rattle.job_session.specs.declared.values.OutputValue.{OutputValue}
 use Rattle.job_session.specs.declared.values.KeptWire.{KeptWire}
@@ -34,20 +34,20 @@ use Rattle.job_plan.proofs.TallyLaws.{deals_is, length_only_if, messages_by_part
 none_there : (sessions : List Session) (s v : ℕ) → length sessions ≤ s → source (session_at sessions s) v ≡ Given 0
 none_there sessions s v past = ap (λ x. source x v) (get_or_past sessions s no_session past)
 
-carried_is : (r : ℕ) (from : Source) → carries r from ≡ true → (c : ℕ) × (i : ℕ) × (from ≡ Carried r c i)
+carried_is : (r : ℕ) (from : Source) → carries r from ≡ true → (c : ℕ) × (i : ℕ) × (from ≡ Earlier r c i)
 carried_is r (Given p) e = absurd (false≢true e)
-carried_is r (Carried a c i) e = (c, i, ap (λ q. Carried q c i) (eqb-true a r e))
+carried_is r (Earlier a c i) e = (c, i, ap (λ q. Earlier q c i) (eqb-true a r e))
 
 module _ (sessions : List Session) where
   -- what is carried comes from an earlier session, of which it is an output
   module _ (fit : AllFit sessions) where
-    pub carries_earlier : (s v r c i : ℕ) → source (session_at sessions s) v ≡ Carried r c i → r < s
+    pub carries_earlier : (s v r c i : ℕ) → source (session_at sessions s) v ≡ Earlier r c i → r < s
     carries_earlier s v r c i e = elim (cases_lt s (length sessions)) [
       | inl l ↦ omega (arith, (carried_outputs (take s sessions) (session_at sessions s) (fit s l)).session v r c i e, length-take-le s sessions (omega (arith, l)))
       | inr past ↦ absurd (false≢true (sym (ap is_carried (none_there sessions s v past)) ∙ ap is_carried e))
     ]
 
-    pub carries_outputs : (s v r c i : ℕ) → source (session_at sessions s) v ≡ Carried r c i
+    pub carries_outputs : (s v r c i : ℕ) → source (session_at sessions s) v ≡ Earlier r c i
         → carried_output (session_at sessions r) (source (session_at sessions s) v) < length (readers (session_at sessions r))
     carries_outputs s v r c i e = elim (cases_lt s (length sessions)) [
       | inl l ↦
@@ -120,7 +120,7 @@ module _ (sessions : List Session) where
     pub keeping_fits : AllFit (keeping sessions)
     keeping_fits s l =
         let l' : s < length sessions = omega (arith, l, length_keeping) in
-        subst (λ values. All (λ (value : InputValue). (r c : ℕ) → value.owner ≡ CarriedValue r c → IsCarriedFrom (take s (keeping sessions)) r c value.width) values) (sym (inputs_same s))
+        subst (λ values. All (λ (value : InputValue). (r c : ℕ) → value.owner ≡ Carried r c → IsCarriedFrom (take s (keeping sessions)) r c value.width) values) (sym (inputs_same s))
         (λ j d lj r c e.
         let of = fit s l' j d lj r c e in
         let earlier : r < s = omega (arith, of.session, length-take-le s sessions (omega (arith, l'))) in
@@ -135,7 +135,7 @@ module _ (sessions : List Session) where
     -- each carried wire is kept once
     carriers : (s v : ℕ) (from : Source) → source (session_at sessions s) v ≡ from → s < length sessions → total (length sessions) (λ r. one (carries r from)) ≡ one (is_carried from)
     carriers s v (Given p) e l = total_zero (length sessions) (λ r. 0) (λ r lr. refl)
-    carriers s v (Carried a c i) e l = total_pick (length sessions) a 1 (omega (arith, l, carries_earlier fit s v a c i e))
+    carriers s v (Earlier a c i) e l = total_pick (length sessions) a 1 (omega (arith, l, carries_earlier fit s v a c i e))
 
     pub kept_in_all : total (length sessions) (λ r. length (kept_from r sessions)) ≡ total (length sessions) (λ s. carried_count (session_at sessions s))
     kept_in_all =
@@ -160,7 +160,7 @@ there (y ∷ ys) (suc s) x l e = there ys s x (omega (arith, l)) e
 
 -- ---- what is kept for one wire
 
-pub kept_here : (sessions : List Session) (r s v q c i n : ℕ) → source (session_at sessions s) v ≡ Carried q c i → q ≡ r → n ≡ first_output (session_at sessions r) c
+pub kept_here : (sessions : List Session) (r s v q c i n : ℕ) → source (session_at sessions s) v ≡ Earlier q c i → q ≡ r → n ≡ first_output (session_at sessions r) c
     → record { session = s; wire = v; output = n + i } ∷ [] ≡ kept_for sessions r s v
 kept_here sessions r s v q c i n e same is =
     let x = session_at sessions r in
@@ -201,7 +201,7 @@ pub record IsValueOf (x : Session) (c i : ℕ) : Type 0 where
   pub value : c < length x.outputs
   pub wire : first_output x c + i < length (readers x)
 
-pub value_of : (sessions : List Session) → AllFit sessions → (s v r c i : ℕ) → source (session_at sessions s) v ≡ Carried r c i → IsValueOf (session_at sessions r) c i
+pub value_of : (sessions : List Session) → AllFit sessions → (s v r c i : ℕ) → source (session_at sessions s) v ≡ Earlier r c i → IsValueOf (session_at sessions r) c i
 value_of sessions fit s v r c i e =
     let x = session_at sessions r in
     let within : first_output x c + i < length (readers x) = subst (λ (from : Source). carried_output x from < length (readers x)) e (carries_outputs sessions fit s v r c i e) in

@@ -8,7 +8,7 @@ use mathlib.Core.Logic.{inl, inr}
 use Rattle.secret_sharing.specs.Schemes.{IsScheme}
 use Rattle.product_duty.proofs.PairDuties.{duty_holds}
 use Rattle.job_plan.specs.Sound.{IsSound}
-use Rattle.job_plan.specs.Plans.{Plan, structure, holds, duty, scheme, least_party, least_holder, Q2, IsPlan}
+use Rattle.job_plan.specs.Plans.{Plan, structure, is_holder, duty, scheme, least_party, holder_of, Q2, IsPlan}
 use Rattle.std.specs.List.{range_with_len}
 
 pub plan_is : (plan : Plan) → IsSound plan → IsPlan plan
@@ -25,10 +25,10 @@ least_party_is plan test p l e = elim (cases_lt (least_party plan test) plan.par
       (subst (λ z. test z ≡ false) (get_or-range_with_len 0 plan.parties p 0 l ∙ omega arith) (fails_before_first test (range_with_len 0 plan.parties) p 0 (omega (arith, l, past)))) e)
 ]
 
-pub duty_is : (plan : Plan) → Q2 plan → (i j : ℕ) → i < length plan.groups → j < length plan.groups → (duty plan i j < plan.parties) × (holds plan (duty plan i j) i ≡ true) × (holds plan (duty plan i j) j ≡ true)
+pub duty_is : (plan : Plan) → Q2 plan → (i j : ℕ) → i < length plan.groups → j < length plan.groups → (duty plan i j < plan.parties) × (is_holder plan (duty plan i j) i ≡ true) × (is_holder plan (duty plan i j) j ≡ true)
 duty_is plan q2 i j li lj =
     let least = duty_holds (structure plan) q2 i j li lj in
-    let both = and_parts (holds plan (duty plan i j) i) (holds plan (duty plan i j) j) least.passes in
+    let both = and_parts (is_holder plan (duty plan i j) i) (is_holder plan (duty plan i j) j) least.passes in
     (least.party, both.0, both.1)
 
 pub scheme_is : (plan : Plan) → IsPlan plan → IsScheme (scheme plan)
@@ -40,8 +40,8 @@ scheme_is plan h = record {
   second = λ i j li lj. (duty_is plan h.q2 i j li lj).2;
 }
 
-pub least_holds : (plan : Plan) → IsPlan plan → (i : ℕ) → i < length plan.groups → holds plan (least_holder plan i) i ≡ true
-least_holds plan h i li = let d = duty_is plan h.q2 i i li li in (least_party_is plan (λ p. holds plan p i) (duty plan i i) d.0 d.1).1
+pub least_holds : (plan : Plan) → IsPlan plan → (i : ℕ) → i < length plan.groups → is_holder plan (holder_of plan i) i ≡ true
+least_holds plan h i li = let d = duty_is plan h.q2 i i li li in (least_party_is plan (λ p. is_holder plan p i) (duty plan i i) d.0 d.1).1
 
-pub least_within : (plan : Plan) → IsPlan plan → (i : ℕ) → i < length plan.groups → least_holder plan i < plan.parties
-least_within plan h i li = let d = duty_is plan h.q2 i i li li in (least_party_is plan (λ p. holds plan p i) (duty plan i i) d.0 d.1).0
+pub least_within : (plan : Plan) → IsPlan plan → (i : ℕ) → i < length plan.groups → holder_of plan i < plan.parties
+least_within plan h i li = let d = duty_is plan h.q2 i i li li in (least_party_is plan (λ p. is_holder plan p i) (duty plan i i) d.0 d.1).0

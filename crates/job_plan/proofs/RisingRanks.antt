@@ -10,7 +10,7 @@ use Rattle.job_plan.specs.declared.pattern.TransferOrder.{TransferOrder}
 use Rattle.job_plan.specs.declared.pattern.TransferOrder.TheVariants.{BySender, BySummand, ByReceiver}
 use Rattle.job_plan.specs.declared.pattern.Pattern.{Pattern}
 use Rattle.job_plan.specs.declared.pattern.Pattern.TheVariants.{Silent, Dealt, Multiplied, Opened, HandedOut, OpenedToAll, Joined, Held, Received}
-use Rattle.job_plan.specs.Plans.{Plan, scheme, holds, least_holder}
+use Rattle.job_plan.specs.Plans.{Plan, scheme, is_holder, holder_of}
 use Rattle.job_plan.specs.Numbers.{rank, IsRising}
 use Rattle.job_plan.specs.Patterns.{named, deal_transfer, deal_transfers, held_transfer, open_transfers, transfers, order_of}
 use Rattle.job_plan.proofs.RankSearch.{no_transfer, named_at}
@@ -70,7 +70,7 @@ module _ (plan : Plan) (s k : ℕ) (parties : plan.parties ≤ 12) (shares : len
       → Rise (rank_of order) base (base + 12) (joined plan.parties (deal_transfer plan p i))
   row_rises order p i base at =
       rise_wider (rank_of order) base (base + plan.parties * 1) (base + 12) (joined plan.parties (deal_transfer plan p i)) (omega arith)
-      (rise_joined (rank_of order) base 1 plan.parties (deal_transfer plan p i) (λ q lq. rise_one (rank_of order) (base + q * 1) (base + q * 1 + 1) (not (nat_eq q p) && holds plan q i) _ (omega (arith, at q)) (omega (arith, at q))))
+      (rise_joined (rank_of order) base 1 plan.parties (deal_transfer plan p i) (λ q lq. rise_one (rank_of order) (base + q * 1) (base + q * 1 + 1) (not (nat_eq q p) && is_holder plan q i) _ (omega (arith, at q)) (omega (arith, at q))))
 
   deal_rises : (p : ℕ) → Rise (rank_of BySender) (p * 768) (p * 768 + 768) (deal_transfers plan p)
   deal_rises p =
@@ -80,7 +80,7 @@ module _ (plan : Plan) (s k : ℕ) (parties : plan.parties ≤ 12) (shares : len
   open_rises : (r : ℕ) → Rise (rank_of ByReceiver) (r * 64) (r * 64 + 64) (open_transfers plan r)
   open_rises r =
       rise_wider (rank_of ByReceiver) (r * 64) (r * 64 + length plan.groups * 1) (r * 64 + 64) (open_transfers plan r) (omega arith)
-      (rise_joined (rank_of ByReceiver) (r * 64) 1 (length plan.groups) (open_transfer plan r) (λ i li. rise_one (rank_of ByReceiver) (r * 64 + i * 1) (r * 64 + i * 1 + 1) (not (holds plan r i)) _ (omega arith) (omega arith)))
+      (rise_joined (rank_of ByReceiver) (r * 64) 1 (length plan.groups) (open_transfer plan r) (λ i li. rise_one (rank_of ByReceiver) (r * 64 + i * 1) (r * 64 + i * 1 + 1) (not (is_holder plan r i)) _ (omega arith) (omega arith)))
 
   opens_at : (r : ℕ) → Rise (rank_of ByReceiver) (0 + r * 64) (0 + r * 64 + 64) (open_transfers plan r)
   opens_at r = let none : r * 64 ≡ 0 + r * 64 = omega arith in subst (λ z. Rise (rank_of ByReceiver) z (z + 64) (open_transfers plan r)) none (open_rises r)
@@ -90,7 +90,7 @@ module _ (plan : Plan) (s k : ℕ) (parties : plan.parties ≤ 12) (shares : len
   holders_rise i =
       let base = 0 + i * 12 in
       rise_wider (rank_of BySummand) base (base + plan.parties * 1) (base + 12) (joined plan.parties (held_transfer plan i)) (omega arith)
-      (rise_joined (rank_of BySummand) base 1 plan.parties (held_transfer plan i) (λ p lp. rise_one (rank_of BySummand) (base + p * 1) (base + p * 1 + 1) (holds plan p i) _ (omega arith) (omega arith)))
+      (rise_joined (rank_of BySummand) base 1 plan.parties (held_transfer plan i) (λ p lp. rise_one (rank_of BySummand) (base + p * 1) (base + p * 1 + 1) (is_holder plan p i) _ (omega arith) (omega arith)))
 
   pattern_rises : (pattern : Pattern) → (lo : ℕ) × (hi : ℕ) × Rise (rank_of (order_of pattern)) lo hi (transfers plan pattern)
   pattern_rises Silent = (0, 0, omega arith)
@@ -108,7 +108,7 @@ module _ (plan : Plan) (s k : ℕ) (parties : plan.parties ≤ 12) (shares : len
   pattern_rises HandedOut = (
     0,
     0 + length plan.groups * 12,
-    rise_joined (rank_of BySummand) 0 12 (length plan.groups) _ (λ i li. row_rises BySummand (least_holder plan i) i (0 + i * 12) (λ q. omega arith)),
+    rise_joined (rank_of BySummand) 0 12 (length plan.groups) _ (λ i li. row_rises BySummand (holder_of plan i) i (0 + i * 12) (λ q. omega arith)),
   )
   pattern_rises OpenedToAll = (0, 0 + plan.parties * 64, rise_joined (rank_of ByReceiver) 0 64 plan.parties (open_transfers plan) (λ r lr. opens_at r))
   pattern_rises Joined = (0, 0, omega arith)

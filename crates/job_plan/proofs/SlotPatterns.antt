@@ -10,9 +10,9 @@ use Rattle.job_plan.specs.declared.key.Key.{Key}
 use Rattle.job_plan.specs.declared.pattern.Transfer.{Transfer}
 use Rattle.job_plan.specs.declared.pattern.Pattern.TheVariants.{Silent, Multiplied, Joined, Held}
 use Rattle.job_session.specs.declared.source.Source.{Source}
-use Rattle.job_session.specs.declared.source.Source.TheVariants.{Given, Carried}
+use Rattle.job_session.specs.declared.source.Source.TheVariants.{Given, Earlier}
 use Rattle.job_session.specs.Sessions.{Slot, readers, is_direct, is_prepared, source}
-use Rattle.job_plan.specs.Plans.{Plan, holds, least_holder, scheme, session}
+use Rattle.job_plan.specs.Plans.{Plan, is_holder, holder_of, scheme, session}
 use Rattle.job_session.specs.Sessions.Slot.{Input, At_gate, Output, Mask, Mask_product, Masked, Kept}
 use Rattle.job_plan.specs.Messages.{deal_message, deal_messages, input_messages, kept_messages, open_messages, slot_messages}
 use Rattle.job_plan.specs.Patterns.{named, deal_transfer, deal_transfers, held_transfer, input_pattern, open_transfers, transfers, pattern, SlotsFollowPatterns}
@@ -31,7 +31,7 @@ none_joined (suc n) f h = ap₂ (λ x y. x ++ y) (none_joined n f h) (h n)
 
 -- summand i of an opening to r
 abbrev pub open_transfer : Plan → ℕ → ℕ → List Transfer
-open_transfer plan r i = only_if (not (holds plan r i)) (record { share = i; sender = least_holder plan i; receiver = r } ∷ [])
+open_transfer plan r i = only_if (not (is_holder plan r i)) (record { share = i; sender = holder_of plan i; receiver = r } ∷ [])
 
 module _ (plan : Plan) (s k : ℕ) where
   abbrev at : Transfer → Key
@@ -45,7 +45,7 @@ module _ (plan : Plan) (s k : ℕ) where
   rows : (sender : ℕ → ℕ) → joined (length plan.groups) (λ i. joined plan.parties (deal_message plan s k (sender i) i)) ≡ map at (joined (length plan.groups) (λ i. joined plan.parties (deal_transfer plan (sender i) i)))
   rows sender =
       let cell : ℕ → ℕ → Transfer = λ i q. record { share = i; sender = sender i; receiver = q } in
-      let test : ℕ → ℕ → Bool = λ i q. not (nat_eq q (sender i)) && holds plan q i in
+      let test : ℕ → ℕ → Bool = λ i q. not (nat_eq q (sender i)) && is_holder plan q i in
       joined_eq (length plan.groups) _ _ (λ i li. parts plan.parties (test i) (λ q. at (cell i q) ∷ []) (λ q. cell i q ∷ []) (λ q. refl))
       ∙ sym (map_joined at (length plan.groups) (λ i. joined plan.parties (λ q. only_if (test i q) (cell i q ∷ []))))
 
@@ -54,8 +54,8 @@ module _ (plan : Plan) (s k : ℕ) where
 
   opens_are : (r : ℕ) → open_messages plan s k r ≡ map at (open_transfers plan r)
   opens_are r =
-      let cell : ℕ → Transfer = λ i. record { share = i; sender = least_holder plan i; receiver = r } in
-      parts (length plan.groups) (λ i. not (holds plan r i)) (λ i. at (cell i) ∷ []) (λ i. cell i ∷ []) (λ i. refl)
+      let cell : ℕ → Transfer = λ i. record { share = i; sender = holder_of plan i; receiver = r } in
+      parts (length plan.groups) (λ i. not (is_holder plan r i)) (λ i. at (cell i) ∷ []) (λ i. cell i ∷ []) (λ i. refl)
 
   -- what is dealt at a gate that is a direct product, a prepared one or neither
   gate_is : (direct prepared : Bool) → joined plan.parties (λ p. only_if (direct && has_pair (scheme plan) p) (deal_messages plan s k p)) ≡ map at (transfers plan (if direct then Multiplied else if prepared then Joined else Silent))
@@ -65,19 +65,19 @@ module _ (plan : Plan) (s k : ℕ) where
 
   input_is : (from : Source) → input_messages plan s k from ≡ map at (transfers plan (input_pattern from))
   input_is (Given p) = deals_are p
-  input_is (Carried r c i) = refl
+  input_is (Earlier r c i) = refl
 
   kept_is : kept_messages plan s k ≡ map at (transfers plan Held)
   kept_is =
       let cell : ℕ → ℕ → Transfer = λ i p. record { share = i; sender = p; receiver = p } in
-      joined_eq (length plan.groups) _ _ (λ i li. parts plan.parties (λ p. holds plan p i) (λ p. at (cell i p) ∷ []) (λ p. cell i p ∷ []) (λ p. refl))
+      joined_eq (length plan.groups) _ _ (λ i li. parts plan.parties (λ p. is_holder plan p i) (λ p. at (cell i p) ∷ []) (λ p. cell i p ∷ []) (λ p. refl))
       ∙ sym (map_joined at (length plan.groups) (λ i. joined plan.parties (held_transfer plan i)))
 
   follow : (z : Slot) → slot_messages plan s k z ≡ map at (transfers plan (pattern plan s z))
   follow (Input v) = input_is (source (session plan s) v)
   follow (At_gate t) = gate_is (is_direct (session plan s) t) (is_prepared (session plan s) t)
   follow (Output o) = parts plan.parties (has_party (slice_index (readers (session plan s)) o)) (open_messages plan s k) (open_transfers plan) opens_are
-  follow (Mask t side) = rows (least_holder plan)
+  follow (Mask t side) = rows (holder_of plan)
   follow (Mask_product t) = parts plan.parties (has_pair (scheme plan)) (deal_messages plan s k) (deal_transfers plan) deals_are
   follow (Masked t side) = joined_eq plan.parties _ _ (λ r l. opens_are r) ∙ sym (map_joined at plan.parties (open_transfers plan))
   follow (Kept j) = kept_is

@@ -9,9 +9,9 @@ use Rattle.list_laws.proofs.JoinedLists.{length-joined, joined_more}
 use Rattle.secret_sharing.specs.Schemes.{has_pair}
 use Rattle.party_set.specs.Parties.{has_party}
 use Rattle.job_session.specs.declared.source.Source.{Source}
-use Rattle.job_session.specs.declared.source.Source.TheVariants.{Given, Carried}
+use Rattle.job_session.specs.declared.source.Source.TheVariants.{Given, Earlier}
 use Rattle.job_session.specs.Sessions.{Session, Slot, given_by, owners, readers, source}
-use Rattle.job_plan.specs.Plans.{Plan, session, slot, slots, scheme, deals_in, holds, least_holder, opens_to, least_held, words_in, words_before, words}
+use Rattle.job_plan.specs.Plans.{Plan, session, slot, slots, scheme, deals_in, is_holder, holder_of, opens_to, least_held, words_in, words_before, words}
 use Rattle.job_plan.specs.declared.key.Key.{Key}
 use Rattle.job_session.specs.Sessions.Slot.{Input, At_gate, Output, Mask, Mask_product, Masked, Kept}
 use Rattle.job_plan.specs.Messages.{messages, slot_messages, deal_message, deal_messages, input_messages, kept_message, kept_messages, open_messages, mask_messages, product_messages}
@@ -133,7 +133,7 @@ count_step n f before added e here = ap₂ (λ a b. a + b) e here ∙ sym (lengt
 
 -- summand i of an opening to r
 abbrev pub open_message : Plan → ℕ → ℕ → ℕ → ℕ → List Key
-open_message plan s k r i = only_if (not (holds plan r i)) (record { session = s; slot = k; share = i; sender = least_holder plan i; receiver = r } ∷ [])
+open_message plan s k r i = only_if (not (is_holder plan r i)) (record { session = s; slot = k; share = i; sender = holder_of plan i; receiver = r } ∷ [])
 
 -- summand i of a deal by another sender for each summand: as many messages in each slot
 rows_length : (plan : Plan) (s k : ℕ) (sender : ℕ → ℕ) → length (joined (length plan.groups) (λ i. joined plan.parties (deal_message plan s k (sender i) i)))
@@ -154,7 +154,7 @@ kept_length : (plan : Plan) (s k : ℕ) → length (kept_messages plan s k) ≡ 
 kept_length plan s k =
     let row : (i : ℕ) → length (joined plan.parties (kept_message plan s k i)) ≡ length (joined plan.parties (kept_message plan 0 0 i)) = λ i.
     length-joined plan.parties (kept_message plan s k i)
-    ∙ total_eq plan.parties _ _ (λ p l. length_only_if (holds plan p i) (_ ∷ []) ∙ sym (length_only_if (holds plan p i) (_ ∷ [])))
+    ∙ total_eq plan.parties _ _ (λ p l. length_only_if (is_holder plan p i) (_ ∷ []) ∙ sym (length_only_if (is_holder plan p i) (_ ∷ [])))
     ∙ sym (length-joined plan.parties (kept_message plan 0 0 i)) in
     length-joined (length plan.groups) (λ i. joined plan.parties (kept_message plan s k i))
     ∙ total_eq (length plan.groups) _ _ (λ i l. row i)
@@ -163,7 +163,7 @@ kept_length plan s k =
 open_length : (plan : Plan) (s k r : ℕ) → length (open_messages plan s k r) ≡ length (open_messages plan 0 0 r)
 open_length plan s k r =
     length-joined (length plan.groups) (open_message plan s k r)
-    ∙ total_eq (length plan.groups) _ _ (λ i l. length_only_if (not (holds plan r i)) (_ ∷ []) ∙ sym (length_only_if (not (holds plan r i)) (_ ∷ [])))
+    ∙ total_eq (length plan.groups) _ _ (λ i l. length_only_if (not (is_holder plan r i)) (_ ∷ []) ∙ sym (length_only_if (not (is_holder plan r i)) (_ ∷ [])))
     ∙ sym (length-joined (length plan.groups) (open_message plan 0 0 r))
 
 pick_term : (f : ℕ → ℕ) (d p : ℕ) → (if nat_eq d p then f d else 0) ≡ f p * one (nat_eq d p)
@@ -228,7 +228,7 @@ module _ (plan : Plan) (s : ℕ) where
       deal_length plan s k d
       ∙ sym (total_pick plan.parties d (deal_size d) (party d refl))
       ∙ total_eq plan.parties (λ p. if nat_eq d p then deal_size d else 0) (λ p. deal_size p * one (nat_eq d p) + open_size p * 0) (λ p l. pick_term deal_size d p ∙ omega arith)
-  input_size k (Carried r c i) party = sym (total_zero plan.parties (λ p. deal_size p * 0 + open_size p * 0) (λ p l. omega arith))
+  input_size k (Earlier r c i) party = sym (total_zero plan.parties (λ p. deal_size p * 0 + open_size p * 0) (λ p l. omega arith))
 
   size_is : ((v p : ℕ) → v < length (owners (session plan s)) → source (session plan s) v ≡ Given p → p < plan.parties) → (k : ℕ) (z : Slot) → Inside (session plan s) z → length (slot_messages plan s k z) ≡ size_of z
   size_is parties k (Input v) lv = input_size k (source (session plan s) v) (λ p e. parties v p lv e) ∙ plain_size (Input v) refl refl
@@ -236,7 +236,7 @@ module _ (plan : Plan) (s : ℕ) where
   size_is parties k (Output o) lo = opened_size k (Output o) (λ p. refl) refl refl
   size_is parties k (Mask t side) inside =
       let none = total_zero plan.parties (share_of (Mask t side)) (λ p l. omega arith) in
-      rows_length plan s k (least_holder plan) ∙ omega (arith, none)
+      rows_length plan s k (holder_of plan) ∙ omega (arith, none)
   size_is parties k (Mask_product t) inside = dealt_size k (Mask_product t) (λ p. refl) refl refl
   size_is parties k (Masked t side) inside = opened_size k (Masked t side) (λ p. refl) refl refl
   size_is parties k (Kept j) inside =

@@ -5,7 +5,7 @@ use mathlib.Core.Logic.{inl, inr}
 use Rattle.list_laws.specs.Lists.{total}
 use Rattle.list_laws.proofs.Totals.{total_more}
 use Rattle.list_laws.proofs.JoinedLists.{listed_at, total_within}
-use Rattle.job_plan.specs.Plans.{Plan, slot, slots, least_holder, least_held, words_in, words, words_before, place}
+use Rattle.job_plan.specs.Plans.{Plan, slot, slots, holder_of, least_held, words_in, words, words_before, place}
 use Rattle.job_plan.specs.Numbers.{MasksHaveWords}
 use Rattle.job_plan.specs.Firsts.{PlacesByWords}
 use Rattle.job_plan.specs.Tallies.{tape_length}
@@ -37,10 +37,10 @@ few_places plan p s k sound lp ls lk = omega (arith, place_within plan p s k ls 
 
 -- ---- masks
 
-pub held_within : (plan : Plan) (i n : ℕ) → i < n → least_held plan (least_holder plan i) i < least_held plan (least_holder plan i) n
+pub held_within : (plan : Plan) (i n : ℕ) → i < n → least_held plan (holder_of plan i) i < least_held plan (holder_of plan i) n
 held_within plan i n l =
-    let f : ℕ → ℕ = λ j. if nat_eq (least_holder plan j) (least_holder plan i) then 1 else 0 in
-    let own : f i ≡ 1 = cond-true (nat_eq (least_holder plan i) (least_holder plan i)) 1 0 (eq-eqb (least_holder plan i) (least_holder plan i) refl) in
+    let f : ℕ → ℕ = λ j. if nat_eq (holder_of plan j) (holder_of plan i) then 1 else 0 in
+    let own : f i ≡ 1 = cond-true (nat_eq (holder_of plan i) (holder_of plan i)) 1 0 (eq-eqb (holder_of plan i) (holder_of plan i) refl) in
     omega (arith, own, total_within n i f l)
 
 pub masks_have_words : (plan : Plan) → MasksHaveWords plan

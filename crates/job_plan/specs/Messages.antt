@@ -3,15 +3,15 @@ use Rattle.std.specs.Prelude.{ℕ, ◌&&◌, not, nat_eq, List, [], ◌∷◌, l
 use Rattle.list_laws.specs.Lists.{joined, only_if}
 use Rattle.job_plan.specs.declared.key.Key.{Key}
 use Rattle.job_session.specs.declared.source.Source.{Source}
-use Rattle.job_session.specs.declared.source.Source.TheVariants.{Given, Carried}
+use Rattle.job_session.specs.declared.source.Source.TheVariants.{Given, Earlier}
 use Rattle.job_session.specs.Sessions.{Slot, source}
 use Rattle.job_session.specs.Sessions.Slot.{Input, At_gate, Output, Mask, Mask_product, Masked, Kept}
-use Rattle.job_plan.specs.Plans.{Plan, holds, least_holder, deals_in, session, slot, slots, opens_to}
+use Rattle.job_plan.specs.Plans.{Plan, is_holder, holder_of, deals_in, session, slot, slots, opens_to}
 
 -- summand i of a deal of p, to party q: a message where q is another party that holds it
 abbrev pub deal_message : Plan → ℕ → ℕ → ℕ → ℕ → ℕ → List Key
 deal_message plan s k p i q =
-    only_if (not (nat_eq q p) && holds plan q i)
+    only_if (not (nat_eq q p) && is_holder plan q i)
     (record { session = s; slot = k; share = i; sender = p; receiver = q } ∷ [])
 
 -- a deal of p: each summand to each other party that holds it
@@ -21,13 +21,13 @@ deal_messages plan s k p = joined (length plan.groups) (λ i. joined plan.partie
 -- an opening to r: each summand that r lacks, from its least holder
 abbrev pub open_messages : Plan → ℕ → ℕ → ℕ → List Key
 open_messages plan s k r =
-    joined (length plan.groups) (λ i. only_if (not (holds plan r i))
-    (record { session = s; slot = k; share = i; sender = least_holder plan i; receiver = r } ∷ []))
+    joined (length plan.groups) (λ i. only_if (not (is_holder plan r i))
+    (record { session = s; slot = k; share = i; sender = holder_of plan i; receiver = r } ∷ []))
 
 -- an input that a party gives is dealt by it; one that is carried has no messages
 abbrev pub input_messages : Plan → ℕ → ℕ → Source → List Key
 input_messages plan s k (Given p) = deal_messages plan s k p
-input_messages plan s k (Carried r c i) = []
+input_messages plan s k (Earlier r c i) = []
 
 -- a deal by each party that deals in the slot
 abbrev pub product_messages : Plan → ℕ → ℕ → Slot → List Key
@@ -36,12 +36,12 @@ product_messages plan s k z = joined plan.parties (λ p. only_if (deals_in plan 
 -- a mask: each summand from its least holder to each other party that holds it
 abbrev pub mask_messages : Plan → ℕ → ℕ → List Key
 mask_messages plan s k =
-    joined (length plan.groups) (λ i. joined plan.parties (deal_message plan s k (least_holder plan i) i))
+    joined (length plan.groups) (λ i. joined plan.parties (deal_message plan s k (holder_of plan i) i))
 
 -- summand i of a kept wire, from party p to itself: a message where p holds it
 abbrev pub kept_message : Plan → ℕ → ℕ → ℕ → ℕ → List Key
 kept_message plan s k i p =
-    only_if (holds plan p i) (record { session = s; slot = k; share = i; sender = p; receiver = p } ∷ [])
+    only_if (is_holder plan p i) (record { session = s; slot = k; share = i; sender = p; receiver = p } ∷ [])
 
 -- a kept wire: each summand from each party that holds it to itself
 abbrev pub kept_messages : Plan → ℕ → ℕ → List Key

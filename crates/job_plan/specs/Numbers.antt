@@ -5,7 +5,7 @@ use Rattle.list_laws.specs.Lists.{total}
 use Rattle.job_session.specs.declared.side.Side.{Side}
 use Rattle.job_session.specs.Sessions.{Slot}
 use Rattle.job_session.specs.Sessions.Slot.{Mask}
-use Rattle.job_plan.specs.Plans.{Plan, slot, slots, least_holder, least_held, words_in, place, deals_in}
+use Rattle.job_plan.specs.Plans.{Plan, slot, slots, holder_of, least_held, words_in, place, deals_in}
 use Rattle.job_plan.specs.declared.key.Key.{Key}
 use Rattle.job_plan.specs.declared.pattern.TransferOrder.{TransferOrder}
 use Rattle.job_plan.specs.declared.pattern.TransferOrder.TheVariants.{BySender, BySummand, ByReceiver}
@@ -92,11 +92,11 @@ masks_before plan s k = total k (λ j. if is_mask (slot plan s j) then 1 else 0)
 -- party p draws summand i of the mask in slot k of session s
 pub record DrawsSummand (plan : Plan) (p s k i : ℕ) : Type 0 where
   pub mask : is_mask (slot plan s k) ≡ true
-  pub drawer : least_holder plan i ≡ p
+  pub drawer : holder_of plan i ≡ p
 
 -- each summand of a mask is one of the words that its least holder draws in the slot, and no two are the same word
 pub record MasksHaveWords (plan : Plan) : Type 0 where
   pub within : (s t i : ℕ) (side : Side) → i < length plan.groups
-      → least_held plan (least_holder plan i) i < words_in plan s (least_holder plan i) (Mask t side)
-  pub apart : (i j : ℕ) → least_holder plan i ≡ least_holder plan j → i ≢ j
-      → least_held plan (least_holder plan i) i ≢ least_held plan (least_holder plan j) j
+      → least_held plan (holder_of plan i) i < words_in plan s (holder_of plan i) (Mask t side)
+  pub apart : (i j : ℕ) → holder_of plan i ≡ holder_of plan j → i ≢ j
+      → least_held plan (holder_of plan i) i ≢ least_held plan (holder_of plan j) j

@@ -10,10 +10,10 @@ use Rattle.job_plan.specs.declared.pattern.TransferOrder.TheVariants.{BySender, 
 use Rattle.job_plan.specs.declared.pattern.Pattern.{Pattern}
 use Rattle.job_plan.specs.declared.pattern.Pattern.TheVariants.{Silent, Dealt, Multiplied, Opened, HandedOut, OpenedToAll, Joined, Held, Received}
 use Rattle.job_session.specs.declared.source.Source.{Source}
-use Rattle.job_session.specs.declared.source.Source.TheVariants.{Given, Carried}
+use Rattle.job_session.specs.declared.source.Source.TheVariants.{Given, Earlier}
 use Rattle.job_session.specs.Sessions.{Slot, readers, is_direct, is_prepared, source}
 use Rattle.job_session.specs.Sessions.Slot.{Input, At_gate, Output, Mask, Mask_product, Masked, Kept}
-use Rattle.job_plan.specs.Plans.{Plan, holds, least_holder, scheme, session, slot}
+use Rattle.job_plan.specs.Plans.{Plan, is_holder, holder_of, scheme, session, slot}
 use Rattle.job_plan.specs.Messages.{slot_messages}
 
 -- the message of a transfer, in slot k of session s
@@ -31,7 +31,7 @@ named s k transfer = record {
 -- summand i of a deal of p, to party q
 abbrev pub deal_transfer : Plan → ℕ → ℕ → ℕ → List Transfer
 deal_transfer plan p i q =
-    only_if (not (nat_eq q p) && holds plan q i) (record { share = i; sender = p; receiver = q } ∷ [])
+    only_if (not (nat_eq q p) && is_holder plan q i) (record { share = i; sender = p; receiver = q } ∷ [])
 
 -- a deal of p: each summand to each other party that holds it
 abbrev pub deal_transfers : Plan → ℕ → List Transfer
@@ -40,12 +40,12 @@ deal_transfers plan p = joined (length plan.groups) (λ i. joined plan.parties (
 -- an opening to r: each summand that r lacks, from its least holder
 abbrev pub open_transfers : Plan → ℕ → List Transfer
 open_transfers plan r =
-    joined (length plan.groups) (λ i. only_if (not (holds plan r i))
-    (record { share = i; sender = least_holder plan i; receiver = r } ∷ []))
+    joined (length plan.groups) (λ i. only_if (not (is_holder plan r i))
+    (record { share = i; sender = holder_of plan i; receiver = r } ∷ []))
 
 -- summand i of a kept wire, which party p holds
 abbrev pub held_transfer : Plan → ℕ → ℕ → List Transfer
-held_transfer plan i p = only_if (holds plan p i) (record { share = i; sender = p; receiver = p } ∷ [])
+held_transfer plan i p = only_if (is_holder plan p i) (record { share = i; sender = p; receiver = p } ∷ [])
 
 -- the transfers of a pattern, in order: of a product each party that has a pair deals, an output is opened to each
 -- reader, the summands of a mask are handed out by their least holders, and those of a kept wire stay with all their
@@ -56,7 +56,7 @@ transfers plan (Dealt p) = deal_transfers plan p
 transfers plan Multiplied = joined plan.parties (λ p. only_if (has_pair (scheme plan) p) (deal_transfers plan p))
 transfers plan (Opened readers) = joined plan.parties (λ r. only_if (has_party readers r) (open_transfers plan r))
 transfers plan HandedOut =
-    joined (length plan.groups) (λ i. joined plan.parties (deal_transfer plan (least_holder plan i) i))
+    joined (length plan.groups) (λ i. joined plan.parties (deal_transfer plan (holder_of plan i) i))
 transfers plan OpenedToAll = joined plan.parties (open_transfers plan)
 transfers plan Joined = []
 transfers plan Held = joined (length plan.groups) (λ i. joined plan.parties (held_transfer plan i))
@@ -80,7 +80,7 @@ order_of Received = BySender
 -- how the messages of an input go: a party deals it, or it is received from the earlier session
 abbrev pub input_pattern : Source → Pattern
 input_pattern (Given p) = Dealt p
-input_pattern (Carried r c i) = Received
+input_pattern (Earlier r c i) = Received
 
 -- how the messages of this slot of session s go
 abbrev pub pattern : Plan → ℕ → Slot → Pattern

@@ -3,7 +3,7 @@ use Rattle.std.specs.Prelude.{◌≡◌, ℕ, ◌+◌, ◌-◌, ◌<◌, Bool, t
 use Rattle.list_laws.specs.Lists.{total}
 use Rattle.secret_sharing.specs.Schemes.{Scheme, has_pair}
 use Rattle.party_set.specs.Parties.{Structure, IsQ2, has_party}
-use Rattle.job_session.specs.declared.source.Source.TheVariants.{Carried}
+use Rattle.job_session.specs.declared.source.Source.TheVariants.{Earlier}
 use Rattle.job_session.specs.Sessions.{Session, Slot, given_by, is_direct, no_session, owners, readers, session_slot, session_slots, source}
 use Rattle.job_session.specs.Sessions.Slot.{Input, At_gate, Output, Mask, Mask_product, Masked, Kept}
 use Rattle.job_session.specs.Carries.{kept_from, kept_place}
@@ -30,16 +30,16 @@ abbrev pub structure : Plan → Structure
 structure plan = record { parties = plan.parties; groups = plan.groups }
 
 -- party p is outside group i
-abbrev pub holds : Plan → ℕ → ℕ → Bool
-holds plan = layout.holds (structure plan)
+abbrev pub is_holder : Plan → ℕ → ℕ → Bool
+is_holder plan = layout.holds (structure plan)
 
 -- the least party that passes
 abbrev pub least_party : Plan → (ℕ → Bool) → ℕ
 least_party plan = layout.least_party (structure plan)
 
 -- the least party that holds summand i
-abbrev pub least_holder : Plan → ℕ → ℕ
-least_holder plan = layout.least_holder (structure plan)
+abbrev pub holder_of : Plan → ℕ → ℕ
+holder_of plan = layout.least_holder (structure plan)
 
 -- the least party that holds both summands
 abbrev pub duty : Plan → ℕ → ℕ → ℕ
@@ -59,7 +59,7 @@ session plan s = slice_index_or plan.sessions s no_session
 
 -- each carried wire is carried from an earlier session
 abbrev pub CarriesEarlier : Plan → Type 0
-CarriesEarlier plan = (s v r c i : ℕ) → source (session plan s) v ≡ Carried r c i → r < s
+CarriesEarlier plan = (s v r c i : ℕ) → source (session plan s) v ≡ Earlier r c i → r < s
 
 -- each session keeps what the sessions of the plan carry from it
 abbrev pub KeepsCarried : Plan → Type 0
@@ -127,7 +127,7 @@ reads plan p s o = opens_to plan s p (Output o)
 
 -- of how many of the first i summands party p is the least holder
 abbrev pub least_held : Plan → ℕ → ℕ → ℕ
-least_held plan p i = total i (λ j. if nat_eq (least_holder plan j) p then 1 else 0)
+least_held plan p i = total i (λ j. if nat_eq (holder_of plan j) p then 1 else 0)
 
 -- how many tape words p draws in this slot: of a mask one for each summand of which it is the least holder, and for a
 -- deal one less than there are summands
@@ -149,4 +149,4 @@ place plan p s k = total s (words plan p) + words_before plan p s k
 
 -- the place of summand i of the mask in slot k, on the tape of its least holder
 abbrev pub random_place : Plan → ℕ → ℕ → ℕ → ℕ
-random_place plan s k i = place plan (least_holder plan i) s k + least_held plan (least_holder plan i) i
+random_place plan s k i = place plan (holder_of plan i) s k + least_held plan (holder_of plan i) i

@@ -1,7 +1,7 @@
 //! How many messages and tape words a plan has, found without making a list of them.
 ghost use Rattle.std.specs.Prelude.{◌≡◌, ℕ, ◌+◌, ◌-◌, ◌*◌, ◌^◌, ◌<◌, ◌≤◌, ◌&&◌, nat_eq, not, length};
 ghost use Rattle.list_laws.specs.Lists.{total, joined};
-ghost use Rattle.job_plan.specs.Plans.{holds, session, least_held, words};
+ghost use Rattle.job_plan.specs.Plans.{is_holder, session, least_held, words};
 ghost use Rattle.job_plan.specs.Keeping.{carried_count, keeping_plan};
 ghost use Rattle.job_plan.specs.Messages.{deal_message, deal_messages, kept_message, kept_messages, mask_messages, messages, open_messages};
 ghost use Rattle.job_plan.specs.Numbers.{deals};
@@ -17,7 +17,7 @@ use plan_faults::MOST_SESSIONS;
 pub(crate) fn sends(outline: &Outline, p: u32, q: u32, i: u32) -> bool
     requires party { q < outline.now.parties }
     requires summand { i < length outline.now.groups }
-    ensures { result ≡ (not (nat_eq q p) && holds outline.now q i) }
+    ensures { result ≡ (not (nat_eq q p) && is_holder outline.now q i) }
 {
     q != p && outline.holds(q, i)
 }

@@ -81,7 +81,7 @@ fn push_carried(
     let part = &parts[s as usize];
     for wire in 0..part.input_wires() as u32 {
         match part.source(wire) {
-            Source::Carried {
+            Source::Earlier {
                 session,
                 value,
                 wire: place,
@@ -90,7 +90,7 @@ fn push_carried(
                 wire,
                 output: firsts[value as usize] + place,
             })?,
-            Source::Carried { .. } => {}
+            Source::Earlier { .. } => {}
             Source::Given(_party) => {}
         }
     }

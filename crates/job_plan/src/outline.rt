@@ -36,7 +36,7 @@ impl Model for Outline {
 impl Outline {
     ghost use Rattle.std.specs.Prelude.{◌≡◌, ◌<◌, ◌≤◌, All, IfOk, length};
     ghost use Rattle.secret_sharing.specs.Schemes.{has_pair};
-    ghost use Rattle.job_plan.specs.Plans.{structure, scheme, session, slot, slots, plan_of, holds, least_holder};
+    ghost use Rattle.job_plan.specs.Plans.{structure, scheme, session, slot, slots, plan_of, is_holder, holder_of};
     ghost use Rattle.job_plan.specs.Numbers.{is_mask};
     ghost use Rattle.job_session.specs.Sessions.Slot.{At_gate};
     ghost use Rattle.job_plan.specs.Patterns.{pattern, pattern_at, Occurs};
@@ -147,7 +147,7 @@ impl Outline {
     pub(crate) fn holds(&self, p: u32, i: u32) -> bool
         requires party { p < self.now.parties }
         requires summand { i < length self.now.groups }
-        ensures { result ≡ holds self.now p i }
+        ensures { result ≡ is_holder self.now p i }
     {
         self.layout.holds(p, i)
     }
@@ -155,7 +155,7 @@ impl Outline {
     /// The least party that holds summand `i`.
     pub(crate) fn least_holder(&self, i: u32) -> u32
         requires { i < length self.now.groups }
-        ensures is { result ≡ least_holder self.now i }
+        ensures is { result ≡ holder_of self.now i }
         ensures party { result < self.now.parties }
     {
         self.layout.least_holder(i)
@@ -211,6 +211,6 @@ fn input_pattern(source: Source) -> Pattern
 {
     match source {
         Source::Given(party) => Pattern::Dealt(party),
-        Source::Carried { .. } => Pattern::Received,
+        Source::Earlier { .. } => Pattern::Received,
     }
 }

@@ -17,7 +17,7 @@ use Rattle.job_session.specs.declared.values.Owner.TheVariants.{Party, Carried}
 use Rattle.job_session.specs.declared.values.InputValue.{InputValue}
 use Rattle.job_session.specs.declared.values.OutputValue.{OutputValue}
 use Rattle.job_session.specs.declared.source.Source.{Source}
-use Rattle.job_session.specs.declared.source.Source.TheVariants.{Given, Carried as CarriedWire}
+use Rattle.job_session.specs.declared.source.Source.TheVariants.{Given, Earlier}
 use Rattle.job_session.specs.Sessions.{Session, carried_output, carries, is_carried, no_kept, no_session, owners, owners_of, readers, readers_of, session_at, source, source_from}
 use Rattle.job_session.specs.Parts.{input_values, AreEarlier, IsCarriedFrom, CarriesFit, CarriesOutputs, carry_fault, owner_fault, carries_fault}
 use Rattle.job_session.specs.Carries.{IsKeptAt, KeptHavePlaces, carried_before, carrier, kept_for, kept_from, kept_place}
@@ -58,13 +58,13 @@ carries_fit earlier s ws ps is among none =
 -- ---- wires that are carried
 
 -- a wire that is carried is one of a carried value
-carried_owner : (owner : Owner) (v r c i : ℕ) → source_from owner v ≡ CarriedWire r c i → (owner ≡ Carried r c) × (v ≡ i)
+carried_owner : (owner : Owner) (v r c i : ℕ) → source_from owner v ≡ Earlier r c i → (owner ≡ Carried r c) × (v ≡ i)
 carried_owner (Party p) v r c i e = cc
 carried_owner (Carried a b) v r c i e = (cc, cc)
 
 -- and of those that it has
 carried_from : (earlier : List Session) (values : List InputValue) (v r c i : ℕ) → All (λ (value : InputValue). (r c : ℕ) → value.owner ≡ Carried r c → IsCarriedFrom earlier r c value.width) values
-    → slice_index_or (owners_of values) v (Given 0) ≡ CarriedWire r c i → (width : ℕ) × (i < width) × IsCarriedFrom earlier r c width
+    → slice_index_or (owners_of values) v (Given 0) ≡ Earlier r c i → (width : ℕ) × (i < width) × IsCarriedFrom earlier r c width
 carried_from earlier [] v r c i fits e = cc
 carried_from earlier (value ∷ values) v r c i fits e =
     let here = listed value.width (source_from value.owner) in
@@ -113,12 +113,12 @@ only_one true x d zero l = (refl, refl)
 only_one true x d (suc k) l = absurd (omega (arith, l))
 only_one false x d k l = absurd (omega (arith, l))
 
-carried_there : (r c i : ℕ) → carries r (CarriedWire r c i) ≡ true
+carried_there : (r c i : ℕ) → carries r (Earlier r c i) ≡ true
 carried_there r c i = eq-eqb r r refl
 
 carried_by : (r : ℕ) (from : Source) → carries r from ≡ true → carrier from ≡ r
 carried_by r (Given p) e = absurd (false≢true e)
-carried_by r (CarriedWire a c i) e = eqb-true a r e
+carried_by r (Earlier a c i) e = eqb-true a r e
 
 total_le : (n : ℕ) (f g : ℕ → ℕ) → ((i : ℕ) → i < n → f i ≤ g i) → total n f ≤ total n g
 total_le zero f g h = omega arith
@@ -171,7 +171,7 @@ module _ (sessions : List Session) (r : ℕ) where
   place_is : (s v : ℕ) → carries r (source (at s) v) ≡ true → kept_place sessions s v ≡ place_for s v
   place_is s v e = ap (λ q. total s (λ u. carried_before q (at u) (length (owners (at u)))) + carried_before q (at s) v) (carried_by r (source (at s) v) e)
 
-  wire_there : (s v c i : ℕ) → source (at s) v ≡ CarriedWire r c i → v < length (owners (at s))
+  wire_there : (s v c i : ℕ) → source (at s) v ≡ Earlier r c i → v < length (owners (at s))
   wire_there s v c i e = elim (cases_lt v (length (owners (at s)))) [
     | inl l ↦ l
     | inr past ↦ absurd (false≢true (sym (ap is_carried (get_or_past (owners (at s)) v (Given 0) past)) ∙ ap is_carried e))
@@ -219,7 +219,7 @@ kept_have_places sessions = record {
 
 carried_same : (x y : Session) (from : Source) → x.outputs ≡ y.outputs → carried_output x from ≡ carried_output y from
 carried_same x y (Given p) same = refl
-carried_same x y (CarriedWire r c i) same = ap (λ outputs. length (readers_of (take c outputs)) + i) same
+carried_same x y (Earlier r c i) same = ap (λ outputs. length (readers_of (take c outputs)) + i) same
 
 pub kept_from_same : (r : ℕ) (a b : List Session) → length a ≡ length b → ((s : ℕ) → (session_at a s).inputs ≡ (session_at b s).inputs) → ((s : ℕ) → (session_at a s).outputs ≡ (session_at b s).outputs)
     → kept_from r a ≡ kept_from r b
@@ -241,9 +241,9 @@ kept_from_same r a b long inputs outputs =
 
 -- ---- what is kept can be
 
-carried_parts : (r : ℕ) (from : Source) → carries r from ≡ true → (c : ℕ) × (i : ℕ) × (from ≡ CarriedWire r c i)
+carried_parts : (r : ℕ) (from : Source) → carries r from ≡ true → (c : ℕ) × (i : ℕ) × (from ≡ Earlier r c i)
 carried_parts r (Given p) e = absurd (false≢true e)
-carried_parts r (CarriedWire a c i) e = (c, i, ap (λ (n : ℕ). CarriedWire n c i) (eqb-true a r e))
+carried_parts r (Earlier a c i) e = (c, i, ap (λ (n : ℕ). Earlier n c i) (eqb-true a r e))
 
 kept_outputs : (sessions : List Session) (r : ℕ) → ((s : ℕ) → s < length sessions → CarriesOutputs (take s sessions) (session_at sessions s))
     → All (λ (wire : KeptWire). wire.output < length (readers (session_at sessions r))) (kept_from r sessions)

@@ -2,7 +2,7 @@
 use Rattle.std.specs.Prelude.{◌≡◌, ℕ, ◌+◌, ◌<◌, ◌≤◌, true, if◌then◌else◌, List, [], ◌∷◌, length, slice_index_or}
 use Rattle.list_laws.specs.Lists.{joined, only_if, total}
 use Rattle.job_session.specs.declared.source.Source.{Source}
-use Rattle.job_session.specs.declared.source.Source.TheVariants.{Given, Carried}
+use Rattle.job_session.specs.declared.source.Source.TheVariants.{Given, Earlier}
 use Rattle.job_session.specs.declared.values.KeptWire.{KeptWire}
 use Rattle.job_session.specs.Sessions.{Session, carried_output, carries, no_kept, owners, session_at, source}
 
@@ -26,7 +26,7 @@ carried_before r x n = total n (λ v. if carries r (source x v) then 1 else 0)
 -- the session from which a wire is carried
 abbrev pub carrier : Source → ℕ
 carrier (Given p) = 0
-carrier (Carried r c i) = r
+carrier (Earlier r c i) = r
 
 -- how many wires that session keeps before the one that input wire v of session s carries
 abbrev pub kept_place : List Session → ℕ → ℕ → ℕ
@@ -47,10 +47,10 @@ pub record IsKeptAt (sessions : List Session) (r j : ℕ) (kept : KeptWire) : Ty
 -- each carried wire stands at its place among those that its session keeps, each place is one wire's, and no more wires
 -- are kept than there are input wires
 pub record KeptHavePlaces (sessions : List Session) : Type 0 where
-  pub there : (s v r c i : ℕ) → s < length sessions → source (session_at sessions s) v ≡ Carried r c i
+  pub there : (s v r c i : ℕ) → s < length sessions → source (session_at sessions s) v ≡ Earlier r c i
       → (kept_place sessions s v < length (kept_from r sessions))
       × (slice_index_or (kept_from r sessions) (kept_place sessions s v) no_kept
-      ≡ record { session = s; wire = v; output = carried_output (session_at sessions r) (Carried r c i) })
+      ≡ record { session = s; wire = v; output = carried_output (session_at sessions r) (Earlier r c i) })
   pub each : (r j : ℕ) → j < length (kept_from r sessions)
       → IsKeptAt sessions r j (slice_index_or (kept_from r sessions) j no_kept)
   pub few : (r : ℕ)

@@ -4,7 +4,7 @@
 #[derive(Clone, Copy, Debug, PartialEq, Eq)]
 pub enum Source {
     Given(u32),
-    Carried { session: u32, value: u32, wire: u32 },
+    Earlier { session: u32, value: u32, wire: u32 },
 }
 
 impl Source {
@@ -17,7 +17,7 @@ impl Source {
     {
         match self {
             Source::Given(party) => party == p,
-            Source::Carried { .. } => false,
+            Source::Earlier { .. } => false,
         }
     }
 
@@ -27,7 +27,7 @@ impl Source {
     {
         match self {
             Source::Given(_) => false,
-            Source::Carried { .. } => true,
+            Source::Earlier { .. } => true,
         }
     }
 }

@@ -4,7 +4,7 @@ use Rattle.std.specs.List.{AllByRecursion}
 use Rattle.std.proofs.lemmas.Bool.{cases_lt}
 use mathlib.Core.Logic.{inl, inr}
 use Rattle.job_session.specs.declared.source.Source.{Source}
-use Rattle.job_session.specs.declared.source.Source.TheVariants.{Given, Carried}
+use Rattle.job_session.specs.declared.source.Source.TheVariants.{Given, Earlier}
 use Rattle.job_session.specs.Sessions.{Slot, source}
 use Rattle.job_session.specs.Sessions.Slot.{Input, At_gate, Output, Mask, Mask_product, Masked, Kept}
 use Rattle.job_session.proofs.SessionSlots.{slots_are_numbered}
@@ -37,7 +37,7 @@ product_in_slot plan s (Input v) e = of_input (source (session plan s) v) e
   where
     of_input : (from : Source) → input_pattern from ≡ Multiplied → Multiplies (Input v)
     of_input (Given p) e = cc
-    of_input (Carried r c i) e = cc
+    of_input (Earlier r c i) e = cc
 product_in_slot plan s (Output o) e = cc
 product_in_slot plan s (Mask t side) e = cc
 product_in_slot plan s (Masked t side) e = cc

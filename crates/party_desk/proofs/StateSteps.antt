@@ -18,7 +18,7 @@ use Rattle.job_session.specs.Sessions.Slot.{Input, At_gate, Output, Mask, Mask_p
 use Rattle.job_session.specs.KeptWires.{is_read, reads_in, sets_in}
 use Rattle.job_session.specs.declared.side.Side.{Side}
 use Rattle.job_session.specs.declared.side.Side.TheVariants.{First, Second}
-use Rattle.job_plan.specs.Plans.{IsPlan, Plan, holds, least_held, least_holder, scheme, session, slot}
+use Rattle.job_plan.specs.Plans.{IsPlan, Plan, is_holder, least_held, holder_of, scheme, session, slot}
 use Rattle.job_plan.proofs.PlanSchemes.{scheme_is}
 use Rattle.party_program.specs.declared.program.Instruction.{Instruction}
 use Rattle.party_program.specs.declared.program.Instruction.TheVariants.{Draw, Deal, Post, Take, Linear, Own, Sum, Open, Join, Deliver, End}
@@ -45,13 +45,13 @@ own_of_held s h p x y a b f g =
     ]
 
 -- an opened value hangs on the summands that the party holds, and on those that it got
-opened_of_held : (plan : Plan) (p : ℕ) (x y a b : ℕ → ℕ) → ((i : ℕ) → i < length plan.groups → holds plan p i ≡ true → x i ≡ a i) → SameRow (length plan.groups) y b → opened plan p x y ≡ opened plan p a b
+opened_of_held : (plan : Plan) (p : ℕ) (x y a b : ℕ → ℕ) → ((i : ℕ) → i < length plan.groups → is_holder plan p i ≡ true → x i ≡ a i) → SameRow (length plan.groups) y b → opened plan p x y ≡ opened plan p a b
 opened_of_held plan p x y a b f g = ap (λ z. z % 2 ^ plan.bits) (total_eq (length plan.groups) _ _ (λ i li. part i li))
   where
-    part : (i : ℕ) → i < length plan.groups → (if holds plan p i then x i else y i) ≡ (if holds plan p i then a i else b i)
-    part i li = elim (cases_Bool (holds plan p i)) [
-      | inl yes' ↦ cond-true (holds plan p i) _ _ yes' ∙ f i li yes' ∙ sym (cond-true (holds plan p i) _ _ yes')
-      | inr no' ↦ cond-false (holds plan p i) _ _ no' ∙ g i li ∙ sym (cond-false (holds plan p i) _ _ no')
+    part : (i : ℕ) → i < length plan.groups → (if is_holder plan p i then x i else y i) ≡ (if is_holder plan p i then a i else b i)
+    part i li = elim (cases_Bool (is_holder plan p i)) [
+      | inl yes' ↦ cond-true (is_holder plan p i) _ _ yes' ∙ f i li yes' ∙ sym (cond-true (is_holder plan p i) _ _ yes')
+      | inr no' ↦ cond-false (is_holder plan p i) _ _ no' ∙ g i li ∙ sym (cond-false (is_holder plan p i) _ _ no')
     ]
 
 -- the word that was taken is the one that is got
@@ -133,14 +133,14 @@ module _ (plan : Plan) (s p : ℕ) where
   one_or_stays u v i does off' = elim (cases_eq v u) [ inl e ↦ inl e | inr ne ↦ inr (λ σ. off' σ ne) ]
 
   module _ (words : ℕ → ℕ) (input : ℕ) where
-    drawn_or_stays : (z : Slot) (v i : ℕ) → (Takes x z v × (least_holder plan i ≡ p)) ⊎ Stays (drawn_in plan p s words z) v i
+    drawn_or_stays : (z : Slot) (v i : ℕ) → (Takes x z v × (holder_of plan i ≡ p)) ⊎ Stays (drawn_in plan p s words z) v i
     drawn_or_stays (Mask t side) v i =
         let u : ℕ = mask_wire x t side in
-        let new : State → ℕ → ℕ = λ σ i. if nat_eq (least_holder plan i) p then words (least_held plan p i) else σ.rows u i in
+        let new : State → ℕ → ℕ = λ σ i. if nat_eq (holder_of plan i) p then words (least_held plan p i) else σ.rows u i in
         elim (cases_eq v u) [
-          | inl e ↦ elim (cases_eq (least_holder plan i) p) [
+          | inl e ↦ elim (cases_eq (holder_of plan i) p) [
             | inl own ↦ inl (e, own)
-            | inr other ↦ inr (λ σ. ap (λ z. z i) (set_here σ.rows u v (new σ) e) ∙ cond-false (nat_eq (least_holder plan i) p) _ _ (ne_eqb (least_holder plan i) p other) ∙ ap (λ z. σ.rows z i) (sym e))
+            | inr other ↦ inr (λ σ. ap (λ z. z i) (set_here σ.rows u v (new σ) e) ∙ cond-false (nat_eq (holder_of plan i) p) _ _ (ne_eqb (holder_of plan i) p other) ∙ ap (λ z. σ.rows z i) (sym e))
           ]
           | inr ne ↦ inr (λ σ. off σ.rows u v i (new σ) ne)
         ]
@@ -244,7 +244,7 @@ module _ (plan : Plan) (s p : ℕ) where
 
     -- what is read later of a wire that the instruction completes is held, and some slot reads the wire
     abbrev pub HeldLater : Instruction → Type 0
-    HeldLater e = Finishes e → (v i : ℕ) → SetsSummand plan p s e v i → later v i → (holds plan p i ≡ true) × (is_read x' v ≡ true)
+    HeldLater e = Finishes e → (v i : ℕ) → SetsSummand plan p s e v i → later v i → (is_holder plan p i ≡ true) × (is_read x' v ≡ true)
 
     -- after it they are the same in what it sets and is read later
     pub record SameAfter (e : Instruction) (ρ' σ' : State) : Type 0 where
@@ -259,10 +259,10 @@ module _ (plan : Plan) (s p : ℕ) where
       draw_same k (Mask t side) is mask = record {
         rows = λ v i li sets l.
             let u : ℕ = mask_wire x' t side in
-            let own : least_holder plan i ≡ p = sets.1 in
+            let own : holder_of plan i ≡ p = sets.1 in
             let word : ℕ = words (least_held plan p i) in
             set_both ρ.rows σ.rows u v i _ _ (subst (λ y. Takes x' y v) is sets.0)
-            (cond-true (nat_eq (least_holder plan i) p) word _ (eq-eqb (least_holder plan i) p own) ∙ sym (cond-true (nat_eq (least_holder plan i) p) word _ (eq-eqb (least_holder plan i) p own)));
+            (cond-true (nat_eq (holder_of plan i) p) word _ (eq-eqb (holder_of plan i) p own) ∙ sym (cond-true (nat_eq (holder_of plan i) p) word _ (eq-eqb (holder_of plan i) p own)));
         same_parts = record { own = parts.own; sums = parts.sums; excess = parts.excess; given = parts.given; outputs = parts.outputs };
       }
       draw_same k (Input u) is mask = absurd mask
@@ -319,7 +319,7 @@ module _ (plan : Plan) (s p : ℕ) where
           let g : Gate = gate_at plan s k in
           record {
             rows = λ v i li sets l.
-                let has : holds plan p i ≡ true = (held tt v i sets l).0 in
+                let has : is_holder plan p i ≡ true = (held tt v i sets l).0 in
                 set_both ρ.rows σ.rows g.output v i _ _ sets
                 (local_same (2 ^ plan.bits) g i (ρ.rows g.first i) (ρ.rows g.second i) (σ.rows g.first i) (σ.rows g.second i)
                 (λ a. known g.first i li (reads g.first a, has)) (λ a. known g.second i li (reads g.second a, has)));
@@ -401,7 +401,7 @@ module _ (plan : Plan) (s p : ℕ) where
           subst (λ z. SameAfter (Join k) (joined_in plan s z ρ) (joined_in plan s z σ)) (sym is)
           (record {
             rows = λ v i li sets l.
-                let has : holds plan p i ≡ true = (held tt v i sets l).0 in
+                let has : is_holder plan p i ≡ true = (held tt v i sets l).0 in
                 let out : v ≡ (gate x' t).output = sets ∙ ap (λ z. (product_in x' z).output) is in
                 set_both ρ.rows σ.rows (gate x' t).output v i _ _ out
                 (joined_same t i (known a i li (reads a (one_of_three a b c), has)) (known b i li (reads b (two_of_three a b c), has)) (known c i li (reads c (three_of_three a b c), has)));

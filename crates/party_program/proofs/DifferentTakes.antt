@@ -9,7 +9,7 @@ use Rattle.list_laws.proofs.JoinedLists.{at_append_right, every_range, every_wea
 use Rattle.party_set.specs.Parties.{has_party}
 use Rattle.circuit_model.specs.Circuits.{is_product}
 use Rattle.job_session.specs.declared.source.Source.{Source}
-use Rattle.job_session.specs.declared.source.Source.TheVariants.{Given, Carried}
+use Rattle.job_session.specs.declared.source.Source.TheVariants.{Given, Earlier}
 use Rattle.job_session.specs.declared.values.KeptWire.{KeptWire}
 use Rattle.job_session.specs.Sessions.{Session, Slot, gate, is_direct, is_prepared, no_session, session_slots, slot_list, source}
 use Rattle.job_session.specs.Sessions.Slot.{Input, At_gate, Output, Mask, Mask_product, Masked, Kept}
@@ -160,7 +160,7 @@ module _ (plan : Plan) (is : IsPlan plan) (p s : ℕ) where
 
     input_slot : (v : ℕ) → slot plan s k ≡ Input v → (from : Source) → source (session plan s) v ≡ from → AllByRecursion (λ n. taken_at n ≡ k) (input_taken plan s k v from)
     input_slot v e (Given q) same = own_slot (Input v) e refl
-    input_slot v e (Carried r c i) same =
+    input_slot v e (Earlier r c i) same =
         let at = kept_in plan is s v r c i same in
         at_slot r (keeping_slot plan s v r) k (omega (arith, at.earlier, ls)) at.slot_there
         (ap (λ z. slot_number plan s (taken_as (session plan r) z)) at.slot_is
@@ -177,7 +177,7 @@ module _ (plan : Plan) (is : IsPlan plan) (p s : ℕ) where
 
   distinct_input : (k v : ℕ) (from : Source) → Distinct (input_taken plan s k v from)
   distinct_input k v (Given q) = distinct_range (first plan s k) (count plan s k)
-  distinct_input k v (Carried r c i) = distinct_range (first plan r (keeping_slot plan s v r)) (count plan r (keeping_slot plan s v r))
+  distinct_input k v (Earlier r c i) = distinct_range (first plan r (keeping_slot plan s v r)) (count plan r (keeping_slot plan s v r))
 
   distinct_slot : (k : ℕ) (z : Slot) → Distinct (taken_in plan s k z)
   distinct_slot k (Input v) = distinct_input k v (source (session plan s) v)

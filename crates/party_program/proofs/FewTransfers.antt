@@ -8,7 +8,7 @@ use Rattle.party_set.specs.Parties.{has_party}
 use Rattle.job_plan.specs.declared.pattern.Transfer.{Transfer}
 use Rattle.job_plan.specs.declared.pattern.Pattern.{Pattern}
 use Rattle.job_plan.specs.declared.pattern.Pattern.TheVariants.{Silent, Dealt, Multiplied, Opened, HandedOut, OpenedToAll, Joined, Held, Received}
-use Rattle.job_plan.specs.Plans.{Plan, holds, least_holder, scheme}
+use Rattle.job_plan.specs.Plans.{Plan, is_holder, holder_of, scheme}
 use Rattle.job_plan.specs.Patterns.{deal_transfer, deal_transfers, held_transfer, open_transfers, transfers}
 use Rattle.job_plan.specs.Sound.{IsSound}
 use Rattle.party_program.specs.PartySteps.{taken_transfers}
@@ -36,23 +36,23 @@ joined_few n most c f l h =
 module _ (plan : Plan) (sound : IsSound plan) where
   -- of one summand
   summand_few : (p i : ℕ) → length (joined plan.parties (deal_transfer plan p i)) ≤ 12
-  summand_few p i = joined_few plan.parties 12 1 (deal_transfer plan p i) sound.parties (λ q. only_few (not (nat_eq q p) && holds plan q i) (record { share = i; sender = p; receiver = q } ∷ []) 1 (omega arith))
+  summand_few p i = joined_few plan.parties 12 1 (deal_transfer plan p i) sound.parties (λ q. only_few (not (nat_eq q p) && is_holder plan q i) (record { share = i; sender = p; receiver = q } ∷ []) 1 (omega arith))
 
   deal_few : (p : ℕ) → length (deal_transfers plan p) ≤ 768
   deal_few p = joined_few (length plan.groups) 64 12 (λ i. joined plan.parties (deal_transfer plan p i)) sound.groups (λ i. summand_few p i)
 
   open_few : (r : ℕ) → length (open_transfers plan r) ≤ 64
-  open_few r = joined_few (length plan.groups) 64 1 _ sound.groups (λ i. only_few (not (holds plan r i)) (record { share = i; sender = least_holder plan i; receiver = r } ∷ []) 1 (omega arith))
+  open_few r = joined_few (length plan.groups) 64 1 _ sound.groups (λ i. only_few (not (is_holder plan r i)) (record { share = i; sender = holder_of plan i; receiver = r } ∷ []) 1 (omega arith))
 
   pub held_few : length (transfers plan Held) ≤ 768
-  held_few = joined_few (length plan.groups) 64 12 (λ i. joined plan.parties (held_transfer plan i)) sound.groups (λ i. joined_few plan.parties 12 1 (held_transfer plan i) sound.parties (λ p. only_few (holds plan p i) (record { share = i; sender = p; receiver = p } ∷ []) 1 (omega arith)))
+  held_few = joined_few (length plan.groups) 64 12 (λ i. joined plan.parties (held_transfer plan i)) sound.groups (λ i. joined_few plan.parties 12 1 (held_transfer plan i) sound.parties (λ p. only_few (is_holder plan p i) (record { share = i; sender = p; receiver = p } ∷ []) 1 (omega arith)))
 
   pub few_transfers : (pattern : Pattern) → length (transfers plan pattern) ≤ 9216
   few_transfers Silent = omega arith
   few_transfers (Dealt p) = let few = deal_few p in omega arith
   few_transfers Multiplied = joined_few plan.parties 12 768 _ sound.parties (λ p. only_few (has_pair (scheme plan) p) (deal_transfers plan p) 768 (deal_few p))
   few_transfers (Opened readers) = let few = joined_few plan.parties 12 64 _ sound.parties (λ r. only_few (has_party readers r) (open_transfers plan r) 64 (open_few r)) in omega arith
-  few_transfers HandedOut = let few = joined_few (length plan.groups) 64 12 (λ i. joined plan.parties (deal_transfer plan (least_holder plan i) i)) sound.groups (λ i. summand_few (least_holder plan i) i) in omega arith
+  few_transfers HandedOut = let few = joined_few (length plan.groups) 64 12 (λ i. joined plan.parties (deal_transfer plan (holder_of plan i) i)) sound.groups (λ i. summand_few (holder_of plan i) i) in omega arith
   few_transfers OpenedToAll = let few = joined_few plan.parties 12 64 (open_transfers plan) sound.parties open_few in omega arith
   few_transfers Joined = omega arith
   few_transfers Held = let few = held_few in omega arith

@@ -13,7 +13,7 @@ use Rattle.job_plan.specs.declared.pattern.Transfer.{Transfer}
 use Rattle.job_plan.specs.declared.pattern.Pattern.{Pattern}
 use Rattle.job_plan.specs.declared.pattern.Pattern.TheVariants.{Silent, Multiplied, Joined}
 use Rattle.job_session.specs.declared.source.Source.{Source}
-use Rattle.job_session.specs.declared.source.Source.TheVariants.{Given, Carried}
+use Rattle.job_session.specs.declared.source.Source.TheVariants.{Given, Earlier}
 use Rattle.job_session.specs.Sessions.{Slot, gate, given_by, source}
 use Rattle.job_plan.specs.Plans.{IsPlan, Plan, keeping_slot, scheme, session, slot, slots, opens_to, least_held}
 use Rattle.job_session.specs.Sessions.Slot.{Input, At_gate, Output, Mask, Mask_product, Masked, Kept}
@@ -83,7 +83,7 @@ module _ (plan : Plan) (p s k number : ℕ) where
     where
       of_input : (from : Source) → only_if (given_by p from) (instruction.Deal k (deals_before plan p s k) ∷ []) ≡ map place (steps_before plan p (input_pattern from))
       of_input (Given q) = sym (map_only_if place (nat_eq q p) (Deal ∷ []))
-      of_input (Carried r c i) = refl
+      of_input (Earlier r c i) = refl
   opening_is (At_gate t) = before_gate (session plan s).prepared (is_product (gate (session plan s) t).operation)
   opening_is (Output o) = refl
   opening_is (Mask t side) = sym (map_only_if place (nat_lt 0 (least_held plan p (length plan.groups))) (Draw ∷ []))
@@ -103,7 +103,7 @@ module _ (plan : Plan) (p s k number : ℕ) where
     where
       of_input : (from : Source) → [] ≡ map place (steps_after p (input_pattern from))
       of_input (Given q) = refl
-      of_input (Carried r c i) = refl
+      of_input (Earlier r c i) = refl
   closing_is (At_gate t) = after_gate (session plan s).prepared (is_product (gate (session plan s) t).operation)
   closing_is (Output o) = sym (map_only_if place (opens_to plan s p (Output o)) (Deliver ∷ []))
   closing_is (Mask t side) = refl
@@ -165,7 +165,7 @@ module _ (plan : Plan) (p s k : ℕ) (is : IsPlan plan) (ls : s < length plan.se
     where
       of_input : (from : Source) → map own (post_steps plan p (input_pattern from)) ≡ map (placed k (programs.first_of_input plan s k v from) deals) (post_steps plan p (input_pattern from))
       of_input (Given q) = refl
-      of_input (Carried r c i) = refl
+      of_input (Earlier r c i) = refl
   posts_are (At_gate t) e = posts_of (At_gate t) e
   posts_are (Output o) e = posts_of (Output o) e
   posts_are (Mask t side) e = posts_of (Mask t side) e
@@ -187,7 +187,7 @@ module _ (plan : Plan) (p s k : ℕ) (is : IsPlan plan) (ls : s < length plan.se
   of_source : (v : ℕ) → slot plan s k ≡ Input v → (from : Source) → source (session plan s) v ≡ from
       → map (programs.take_of plan) (filter (programs.to plan p) (programs.input_taken plan s k v from)) ≡ map (placed k (programs.first_of_input plan s k v from) deals) (take_steps plan p (input_pattern from))
   of_source v e (Given q) same = takes_of (Input v) e ∙ ap (λ from. map own (map take_step (filter (is_to p) (enumerate_from 0 (transfers plan (input_pattern from)))))) same
-  of_source v e (Carried r c i) same =
+  of_source v e (Earlier r c i) same =
       let at = kept_in plan is s v r c i same in
       let m = keeping_slot plan s v r in
       takes_there plan p r m k deals (omega (arith, at.earlier, at.session_there)) at.slot_there

@@ -5,7 +5,7 @@ use Rattle.std.proofs.lemmas.List.{get_or_past}
 use Rattle.indexmap.specs.IndexMap.{IndexMap, get}
 use Rattle.circuit_model.specs.Circuits.{is_product}
 use Rattle.job_session.specs.declared.source.Source.{Source}
-use Rattle.job_session.specs.declared.source.Source.TheVariants.{Given, Carried}
+use Rattle.job_session.specs.declared.source.Source.TheVariants.{Given, Earlier}
 use Rattle.job_session.specs.Sessions.{Slot, gate, readers, slot_list, source}
 use Rattle.job_session.specs.Sessions.Slot.{Input, At_gate, Output, Mask, Mask_product, Masked, Kept}
 use Rattle.job_plan.specs.declared.pattern.Pattern.TheVariants.{Received}
@@ -29,7 +29,7 @@ module _ (plan : Plan) (is : IsPlan plan) (s k : ℕ) (ls : s < length plan.sess
     where
       of_input : (from : Source) → source (session plan s) v ≡ from → first_of_input plan s k v from ≤ length (messages plan)
       of_input (Given p) e = first_within plan s k ls (omega (arith, lk))
-      of_input (Carried r c i) e =
+      of_input (Earlier r c i) e =
           let at = kept_in plan is s v r c i e in
           first_within plan r (keeping_slot plan s v r) (omega (arith, at.earlier, ls)) (omega (arith, at.slot_there))
   named_within (At_gate t) = first_within plan s k ls (omega (arith, lk))
@@ -49,7 +49,7 @@ pub record IsReceivedAt (plan : Plan) (s : ℕ) (z : Slot) : Type 0 where
   pub value : ℕ
   pub place : ℕ
   pub slot_is : z ≡ Input wire
-  pub carried : source (session plan s) wire ≡ Carried from value place
+  pub carried : source (session plan s) wire ≡ Earlier from value place
 
 module _ (plan : Plan) (s : ℕ) where
   pub received_at : (z : Slot) → pattern plan s z ≡ Received → IsReceivedAt plan s z
@@ -57,7 +57,7 @@ module _ (plan : Plan) (s : ℕ) where
     where
       of_input : (from : Source) → source (session plan s) v ≡ from → input_pattern from ≡ Received → IsReceivedAt plan s (Input v)
       of_input (Given p) same e = absurd cc
-      of_input (Carried r c i) same e = record { wire = v; from = r; value = c; place = i; slot_is = refl; carried = same }
+      of_input (Earlier r c i) same e = record { wire = v; from = r; value = c; place = i; slot_is = refl; carried = same }
   received_at (At_gate t) e = absurd (not_gate (session plan s).prepared (is_product (gate (session plan s) t).operation) e)
     where
       not_gate : (prepared product : Bool) → gate_pattern prepared product ≡ Received → ⊥
@@ -77,7 +77,7 @@ module _ (plan : Plan) (s : ℕ) where
     where
       of_input : (from : Source) → (input_pattern from ≡ Received → ⊥) → first_of_input plan s k v from ≡ first plan s k
       of_input (Given p) other = refl
-      of_input (Carried r c i) other = absurd (other refl)
+      of_input (Earlier r c i) other = absurd (other refl)
   named_own k (At_gate t) other = refl
   named_own k (Output o) other = refl
   named_own k (Mask t side) other = refl
@@ -100,7 +100,7 @@ module _ {S : Type 0} (plan : Plan) (is : IsPlan plan) (s k : ℕ) (lk : k < slo
       ∙ ap Some (sym (ap (first_in plan s k) at.slot_is ∙ ap (first_of_input plan s k at.wire) at.carried))
 
 -- a wire is kept by few messages
-pub few_kept : (plan : Plan) → IsPlan plan → IsSound plan → (s v r c i : ℕ) → source (session plan s) v ≡ Carried r c i → count plan r (keeping_slot plan s v r) ≤ 768
+pub few_kept : (plan : Plan) → IsPlan plan → IsSound plan → (s v r c i : ℕ) → source (session plan s) v ≡ Earlier r c i → count plan r (keeping_slot plan s v r) ≤ 768
 few_kept plan is sound s v r c i e =
     let at = kept_in plan is s v r c i e in
     let m = keeping_slot plan s v r in

@@ -5,7 +5,7 @@ use Rattle.secret_sharing.specs.Schemes.{has_pair}
 use Rattle.job_plan.specs.declared.pattern.Pattern.{Pattern}
 use Rattle.job_plan.specs.declared.pattern.Pattern.TheVariants.{Opened}
 use Rattle.job_session.specs.declared.source.Source.{Source}
-use Rattle.job_session.specs.declared.source.Source.TheVariants.{Given, Carried}
+use Rattle.job_session.specs.declared.source.Source.TheVariants.{Given, Earlier}
 use Rattle.job_session.specs.Sessions.{Slot, gate, given_by, readers_of, source}
 use Rattle.job_session.specs.SlotNumbers.{first_of_gate, session_slot_number}
 use Rattle.job_session.specs.SoundSessions.{Inside}
@@ -30,7 +30,7 @@ module _ (plan : Plan) (s : ℕ) where
 
   input_occurs : (from : Source) → ((p : ℕ) → from ≡ Given p → p < plan.parties) → Occurs plan (input_pattern from)
   input_occurs (Given p) h = h p refl
-  input_occurs (Carried r c i) h = tt
+  input_occurs (Earlier r c i) h = tt
 
   kind_occurs : IsSound plan → s < length plan.sessions → (z : Slot) → Inside (session plan s) z → Occurs plan (pattern plan s z)
   kind_occurs sound ls (Input v) l = input_occurs (source (session plan s) v) (λ p e. (sound.sessions s ls).owned v p l e)
@@ -59,7 +59,7 @@ module _ (plan : Plan) (s : ℕ) where
     where
       of_input : (from : Source) → deals_in_pattern plan p (input_pattern from) ≡ given_by p from
       of_input (Given q) = refl
-      of_input (Carried r c i) = refl
+      of_input (Earlier r c i) = refl
   deals_by_pattern p (At_gate t) = of_gate (session plan s).prepared (is_product (gate (session plan s) t).operation)
     where
       of_gate : (prepared product : Bool) → deals_in_pattern plan p (gate_pattern prepared product) ≡ ((not prepared && product) && has_pair (scheme plan) p)
@@ -89,7 +89,7 @@ module _ (plan : Plan) (s : ℕ) where
 
       input_not : (from : Source) → input_pattern from ≡ Opened readers → ⊥
       input_not (Given p) e = absurd cc
-      input_not (Carried r c i) e = absurd cc
+      input_not (Earlier r c i) e = absurd cc
 
       by_kind : (z : Slot) → Inside (session plan s) z → pattern plan s z ≡ Opened readers
           → (first_output ≤ session_slot_number (session plan s) z) × (session_slot_number (session plan s) z < first_output + length (readers_of (session plan s).outputs))

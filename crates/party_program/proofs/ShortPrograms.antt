@@ -7,7 +7,7 @@ use Rattle.list_laws.specs.Lists.{total, only_if}
 use Rattle.circuit_model.specs.Circuits.{is_product}
 use Rattle.secret_sharing.specs.Schemes.{has_pair}
 use Rattle.job_session.specs.declared.source.Source.{Source}
-use Rattle.job_session.specs.declared.source.Source.TheVariants.{Given, Carried}
+use Rattle.job_session.specs.declared.source.Source.TheVariants.{Given, Earlier}
 use Rattle.job_session.specs.Sessions.{Slot, gate, source}
 use Rattle.job_plan.specs.Plans.{Plan, scheme, session, slot, slots, deals_in, gives, keeping_slot, opens_to, least_held}
 use Rattle.job_session.specs.Sessions.Slot.{Input, At_gate, Output, Mask, Mask_product, Masked, Kept}
@@ -74,7 +74,7 @@ module _ (plan : Plan) (p s : ℕ) where
 
     input_short : (v : ℕ) (from : Source) → source (session plan s) v ≡ from → length (map (take_of plan) (filter (to plan p) (input_taken plan s k v from))) ≤ count plan s k + 768
     input_short v (Given q) e = own_short
-    input_short v (Carried r c i) e =
+    input_short v (Earlier r c i) e =
         let m = keeping_slot plan s v r in
         omega (arith, passing_short (take_of plan) (to plan p) (first plan r m) (count plan r m), few_kept plan (plan_is plan sound) sound s v r c i e)
 

@@ -5,7 +5,7 @@ use Rattle.indexmap.specs.IndexMap.{IndexMap, get}
 use Rattle.list_laws.specs.Lists.{total, listed}
 use Rattle.job_plan.specs.declared.pattern.Pattern.{Pattern}
 use Rattle.job_plan.specs.declared.pattern.Pattern.TheVariants.{Silent, Dealt, Multiplied, Opened, HandedOut, OpenedToAll, Joined, Held, Received}
-use Rattle.job_session.specs.declared.source.Source.TheVariants.{Carried}
+use Rattle.job_session.specs.declared.source.Source.TheVariants.{Earlier}
 use Rattle.job_session.specs.Sessions.{Session, owners, readers, session_slots, source}
 use Rattle.job_session.specs.Sessions.Slot.{Input}
 use Rattle.job_session.specs.Batches.{IsInBatch}
@@ -114,7 +114,7 @@ IsReceived plan s received v r =
 -- so for each wire that session s carries from one of the first n
 abbrev pub AreReceived : {S : Type 0} → Plan → ℕ → ℕ → IndexMap ℕ ℕ S → Type 0
 AreReceived plan s n received =
-    (v r c i : ℕ) → r < n → source (session plan s) v ≡ Carried r c i → IsReceived plan s received v r
+    (v r c i : ℕ) → r < n → source (session plan s) v ≡ Earlier r c i → IsReceived plan s received v r
 
 -- how many deals p makes before each of the first k slots are listed, these are the instructions and deals of p in
 -- those, and there is room for the others

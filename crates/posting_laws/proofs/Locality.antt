@@ -9,7 +9,7 @@ use Rattle.secret_sharing.specs.Prepared.{joined_summand, masked}
 use Rattle.job_session.specs.declared.side.Side.{Side}
 use Rattle.job_session.specs.declared.side.Side.TheVariants.{First, Second}
 use Rattle.job_session.specs.declared.source.Source.{Source}
-use Rattle.job_session.specs.declared.source.Source.TheVariants.{Given, Carried}
+use Rattle.job_session.specs.declared.source.Source.TheVariants.{Given, Earlier}
 use Rattle.job_session.specs.Sessions.{Slot, gate, kept_wire, operand, output_wire, owners, source}
 use Rattle.job_session.specs.Sessions.Slot.{Input, At_gate, Output, Mask, Mask_product, Masked, Kept}
 use Rattle.job_session.specs.SoundSessions.{Inside}
@@ -18,7 +18,7 @@ use Rattle.job_plan.specs.declared.key.Key.{Key}
 use Rattle.job_plan.specs.InputWords.{InputLists}
 use Rattle.job_plan.specs.Messages.{messages}
 use Rattle.job_plan.specs.Numbers.{no_key}
-use Rattle.job_plan.specs.Plans.{given_before, holds, least_held, least_holder, place, scheme, session, slot_number}
+use Rattle.job_plan.specs.Plans.{given_before, is_holder, least_held, holder_of, place, scheme, session, slot_number}
 use Rattle.job_plan.proofs.DistinctMessages.{every_place}
 use Rattle.share_world.specs.Locals.{kept_key, key_at, local_deal, local_excess, local_mask, local_mask_product, local_opened, local_product, local_run, local_source, local_start, local_word, local_word_in}
 use Rattle.share_world.specs.Worlds.{World, input_of, mask, source_input, tape_word}
@@ -43,14 +43,14 @@ module _ (w : World) (p : ℕ) (inputs : InputLists) (tapes : List (List ℕ)) (
       ap (source_input w s v) is ∙ ap (λ (mine : List (List ℕ)). slice_index (slice_index_or mine s []) (given_before w.plan p s v)) (sym own.input)
       ∙ ap (source_input other s v) (sym is)
 
-  mask_same : (s t : ℕ) (side : Side) (i : ℕ) → least_holder w.plan i ≡ p → mask w s t side i ≡ mask other s t side i
+  mask_same : (s t : ℕ) (side : Side) (i : ℕ) → holder_of w.plan i ≡ p → mask w s t side i ≡ mask other s t side i
   mask_same s t side i is =
       ap (λ q. tape_word w s (Mask t side) q (least_held w.plan q i)) is ∙ ap (λ (word : ℕ → ℕ). word (least_held w.plan p i)) (drawn s (Mask t side))
       ∙ ap (λ q. tape_word other s (Mask t side) q (least_held w.plan q i)) (sym is)
 
   masks : (s t : ℕ) (side : Side) → local_mask w got p s t side ≡ local_mask other came p s t side
-  masks s t side = fun_ext (λ i. choose (nat_eq (least_holder w.plan i) p) _ _ _ _
-      (λ yes. mask_same s t side i (eqb-true (least_holder w.plan i) p yes)) (λ no. same (key_at w.plan s (Mask t side) i (least_holder w.plan i) p) refl))
+  masks s t side = fun_ext (λ i. choose (nat_eq (holder_of w.plan i) p) _ _ _ _
+      (λ yes. mask_same s t side i (eqb-true (holder_of w.plan i) p yes)) (λ no. same (key_at w.plan s (Mask t side) i (holder_of w.plan i) p) refl))
 
   deal : (s : ℕ) (kind : Slot) (q a b i : ℕ) → (q ≡ p → a ≡ b) → local_deal w got p s kind q a i ≡ local_deal other came p s kind q b i
   deal s kind q a b i value = choose (nat_eq q p) _ _ _ _
@@ -61,8 +61,8 @@ module _ (w : World) (p : ℕ) (inputs : InputLists) (tapes : List (List ℕ)) (
   deals s kind = fun_ext (λ q. fun_ext (λ a. fun_ext (λ i. deal s kind q a a i (λ is. refl))))
 
   opened : (s : ℕ) (kind : Slot) (held kept : ℕ → ℕ) → held ≡ kept → local_opened w got p s kind held ≡ local_opened other came p s kind kept
-  opened s kind held kept are = ap (λ (f : ℕ → ℕ). total (length w.plan.groups) f % 2 ^ w.plan.bits) (fun_ext (λ i. choose (holds w.plan p i) _ _ _ _
-      (λ has. ap (λ (f : ℕ → ℕ). f i) are) (λ lacks. same (key_at w.plan s kind i (least_holder w.plan i) p) refl)))
+  opened s kind held kept are = ap (λ (f : ℕ → ℕ). total (length w.plan.groups) f % 2 ^ w.plan.bits) (fun_ext (λ i. choose (is_holder w.plan p i) _ _ _ _
+      (λ has. ap (λ (f : ℕ → ℕ). f i) are) (λ lacks. same (key_at w.plan s kind i (holder_of w.plan i) p) refl)))
 
   excess : (s t : ℕ) (side : Side) (x : ℕ → ℕ) → local_excess w got p s t side x ≡ local_excess other came p s t side x
   excess s t side x = opened s (Masked t side) _ _ (ap (masked (scheme w.plan) x) (masks s t side))
@@ -96,7 +96,7 @@ module _ (w : World) (p : ℕ) (inputs : InputLists) (tapes : List (List ℕ)) (
 
   from_source : (s v i : ℕ) (from : Source) → source (session w.plan s) v ≡ from → local_source w got p s v from i ≡ local_source other came p s v from i
   from_source s v i (Given q) is = deal s (Input v) q (input_of w s v) (input_of other s v) i (λ e. given_same s v (is ∙ ap (λ q. Given q) e))
-  from_source s v i (Carried r c at) is = same (kept_key w.plan r s v i p) refl
+  from_source s v i (Earlier r c at) is = same (kept_key w.plan r s v i p) refl
 
   start : (s v i : ℕ) → local_start w got p s v i ≡ local_start other came p s v i
   start s v i = choose (nat_lt v (length (owners (session w.plan s)))) _ _ _ _ (λ yes. from_source s v i (source (session w.plan s) v) refl) (λ no. refl)

@@ -6,10 +6,10 @@ use mathlib.Core.Logic.{inl}
 use Rattle.list_laws.specs.Lists.{joined}
 use Rattle.list_laws.proofs.JoinedLists.{every_joined, every_only_if, every_both}
 use Rattle.secret_sharing.specs.Schemes.{Run, summands}
-use Rattle.job_session.specs.declared.source.Source.TheVariants.{Carried}
+use Rattle.job_session.specs.declared.source.Source.TheVariants.{Earlier}
 use Rattle.job_session.specs.Sessions.{Session, Slot, given_by, kept_wire, owners, source}
 use Rattle.job_session.specs.Sessions.Slot.{Input, Kept}
-use Rattle.job_plan.specs.Plans.{Plan, IsPlan, holds, keeping_slot, session, slot, slots}
+use Rattle.job_plan.specs.Plans.{Plan, IsPlan, is_holder, keeping_slot, session, slot, slots}
 use Rattle.job_plan.specs.declared.key.Key.{Key}
 use Rattle.job_plan.specs.Firsts.{first, numbers}
 use Rattle.job_plan.specs.Messages.{slot_messages, input_messages, kept_message, kept_messages}
@@ -30,17 +30,17 @@ use Rattle.program_laws.proofs.SlotTallies.{Any, any_number, any_joined}
 use Rattle.program_laws.proofs.TakenMessages.{IsTakenIn, all_taken}
 
 -- each summand that a party holds of a kept wire comes to it
-kept_any : (plan : Plan) (r k p i : ℕ) → p < plan.parties → i < length plan.groups → holds plan p i ≡ true → Any p i (kept_messages plan r k)
+kept_any : (plan : Plan) (r k p i : ℕ) → p < plan.parties → i < length plan.groups → is_holder plan p i ≡ true → Any p i (kept_messages plan r k)
 kept_any plan r k p i lp li held =
     any_joined p i (length plan.groups) i (λ j. joined plan.parties (kept_message plan r k j)) li
-    (any_joined p i plan.parties p (kept_message plan r k i) lp (subst (Any p i) (sym (cond-true (holds plan p i) _ [] held)) (inl (refl, refl))))
+    (any_joined p i plan.parties p (kept_message plan r k i) lp (subst (Any p i) (sym (cond-true (is_holder plan p i) _ [] held)) (inl (refl, refl))))
 
 -- a carried input slot takes what the earlier session keeps of the wire
-module _ (plan : Plan) (h : IsPlan plan) (s v r c j k : ℕ) (is : source (session plan s) v ≡ Carried r c j) (at : slot plan s k ≡ Input v) where
+module _ (plan : Plan) (h : IsPlan plan) (s v r c j k : ℕ) (is : source (session plan s) v ≡ Earlier r c j) (at : slot plan s k ≡ Input v) where
   pub taken_is : taken plan s k ≡ numbers plan r (keeping_slot plan s v r)
   taken_is = ap (taken_in plan s k) at ∙ ap (input_taken plan s k v) is
 
-  pub carried_has : (p i : ℕ) → p < plan.parties → i < length plan.groups → holds plan p i ≡ true → Has plan i (filter (to plan p) (taken plan s k))
+  pub carried_has : (p i : ℕ) → p < plan.parties → i < length plan.groups → is_holder plan p i ≡ true → Has plan i (filter (to plan p) (taken plan s k))
   carried_has p i lp li held =
       let kept = kept_in plan h s v r c j is in
       let n : ℕ = keeping_slot plan s v r in
@@ -70,7 +70,7 @@ module _ (w : World) (got : Key → ℕ) (s p : ℕ) (h : Runs w s p) where
 
   -- ---- carried inputs
 
-  module _ (v r c j k count : ℕ) (is : source (session w.plan s) v ≡ Carried r c j) (at : slot w.plan s k ≡ Input v) (lk : k < slots w.plan s) (lv : v < length (owners (session w.plan s))) (σ : State) (ready : Ready w got s p h k count σ) where
+  module _ (v r c j k count : ℕ) (is : source (session w.plan s) v ≡ Earlier r c j) (at : slot w.plan s k ≡ Input v) (lk : k < slots w.plan s) (lv : v < length (owners (session w.plan s))) (σ : State) (ready : Ready w got s p h k count σ) where
     kept : IsKeptIn w.plan s v r c j
     kept = kept_in plan (valid w got s p h) s v r c j is
 
@@ -90,7 +90,7 @@ module _ (w : World) (got : Key → ℕ) (s p : ℕ) (h : Runs w s p) where
     all_kept : AllByRecursion (In w got s p h Keeping) earlier
     all_kept = each_number plan r (keeping_slot plan s v r) there kept.slot_there Keeping
         (subst (λ y. AllByRecursion Keeping (slot_messages plan r (keeping_slot plan s v r) y)) (sym kept.slot_is)
-        (every_joined Keeping m _ (λ i li. every_joined Keeping plan.parties _ (λ a la. every_only_if Keeping (holds plan a i) _ (λ e. ((refl, li), tt))))))
+        (every_joined Keeping m _ (λ i li. every_joined Keeping plan.parties _ (λ a la. every_only_if Keeping (is_holder plan a i) _ (λ e. ((refl, li), tt))))))
 
     abbrev ours : List ℕ
     ours = filter (to plan p) (taken plan s k)
@@ -102,7 +102,7 @@ module _ (w : World) (got : Key → ℕ) (s p : ℕ) (h : Runs w s p) where
         (subst (AllByRecursion (In w got s p h Keeping)) (sym (taken_is plan (valid w got s p h) s v r c j k is at)) all_kept))
         (λ n f e. (
           f.0.same ∙ at,
-          ap got (f.1.1.0 ∙ ap (kept_key plan r s v (message plan n).share) (eqb-true (message plan n).receiver p e)) ∙ sym (start_is w got s p h v (Carried r c j) lv is (message plan n).share),
+          ap got (f.1.1.0 ∙ ap (kept_key plan r s v (message plan n).share) (eqb-true (message plan n).receiver p e)) ∙ sym (start_is w got s p h v (Earlier r c j) lv is (message plan n).share),
         ))
 
     pub carried_input : Doing w got s p h k (Rowed w got s p h v ((local_run w got p s).start v) (suc k) count σ) σ
@@ -131,9 +131,9 @@ module _ (w : World) (got : Key → ℕ) (s p : ℕ) (h : Runs w s p) where
       let z : Slot = Kept j in
       let wire : ℕ = kept_wire x j in
       let value : ℕ → ℕ = summands run (length x.gates) wire in
-      let Mine : Key → Type 0 = λ y. (y ≡ key w got s p h k y.share y.sender y.receiver) × (y.share < m) × (holds plan y.sender y.share ≡ true) in
+      let Mine : Key → Type 0 = λ y. (y ≡ key w got s p h k y.share y.sender y.receiver) × (y.share < m) × (is_holder plan y.sender y.share ≡ true) in
       let all : AllByRecursion (In w got s p h Mine) (numbers plan s k) =
-      numbered w got s p h k z Mine at lk (every_joined Mine m _ (λ i li. every_joined Mine plan.parties _ (λ a la. every_only_if Mine (holds plan a i) _ (λ e. ((refl, li, e), tt))))) in
+      numbered w got s p h k z Mine at lk (every_joined Mine m _ (λ i li. every_joined Mine plan.parties _ (λ a la. every_only_if Mine (is_holder plan a i) _ (λ e. ((refl, li, e), tt))))) in
       let none : takes plan p s k ≡ [] = ap (λ ns. map (take_of plan) (filter (to plan p) ns)) (ap (taken_in plan s k) at) in
       let R : State → Type 0 = λ τ. (τ ≡ σ) × Ready w got s p h (suc k) count τ in
       slot_leaves w got s p h k z at lk σ σ (λ ρ. ρ ≡ σ) R (tt, refl)
@@ -143,7 +143,7 @@ module _ (w : World) (got : Key → ℕ) (s p : ℕ) (h : Runs w s p) where
       let sender : (message plan n).sender ≡ p = eqb-true _ _ e in (
         sender,
         ap (λ y. posted plan s y i σ) (slot_is w got s p h k z n _ _ _ at f.1.0)
-            ∙ held i f.1.1 (subst (λ a. holds plan a i ≡ true) sender f.1.2)
+            ∙ held i f.1.1 (subst (λ a. is_holder plan a i ≡ true) sender f.1.2)
             ∙ sym (word_of w got s p h k z n i (message plan n).sender r at f.1.0),
       )))
       (ap (λ es. after_all l es σ) none)

@@ -13,7 +13,7 @@ use Rattle.job_session.specs.declared.source.Source.{Source}
 use Rattle.job_session.specs.declared.source.Source.TheVariants.{Given as GivenBy}
 use Rattle.job_session.specs.Sessions.{Session, Slot, given_by, owners, source, mask_wire}
 use Rattle.job_session.specs.Sessions.Slot.{Input, Mask}
-use Rattle.job_plan.specs.Plans.{Plan, scheme, session, slot, slots, holds, given_before, least_holder, least_held, deals_in, words_in, words_before}
+use Rattle.job_plan.specs.Plans.{Plan, scheme, session, slot, slots, is_holder, given_before, holder_of, least_held, deals_in, words_in, words_before}
 use Rattle.job_plan.specs.declared.key.Key.{Key}
 use Rattle.job_plan.specs.Firsts.{numbers}
 use Rattle.job_plan.specs.Messages.{slot_messages, deal_message, input_messages}
@@ -70,7 +70,7 @@ module _ (w : World) (got : Key → ℕ) (s p : ℕ) (h : Runs w s p) where
     all : AllByRecursion (In w got s p h By) (numbers plan s k)
     all = numbered w got s p h k z By at lk (subst (AllByRecursion By) (sym keys) (all_rows w got s p h k sender))
 
-    has : (i : ℕ) → i < m → holds plan p i ≡ true → sender i ≢ p → Has plan i ns
+    has : (i : ℕ) → i < m → is_holder plan p i ≡ true → sender i ≢ p → Has plan i ns
     has i li held ne = any_number plan p i (numbers plan s k)
         (subst (Any p i) (sym (keys_are plan s k h.session_there lk ∙ ap (slot_messages plan s k) at ∙ keys)) (row_any plan s k sender p i h.party_there li (λ e. ne (sym e)) held))
 
@@ -181,18 +181,18 @@ module _ (w : World) (got : Key → ℕ) (s p : ℕ) (h : Runs w s p) where
       let z : Slot = Mask t side in
       let v : ℕ = mask_wire x t side in
       let value : ℕ → ℕ = local_mask w got p s t side in
-      let mine : (i : ℕ) → least_holder plan i ≡ p → value i ≡ tape_word w s z p (least_held plan p i) = λ i e. cond-true (nat_eq (least_holder plan i) p) _ _ (eq-eqb (least_holder plan i) p e) ∙ ap (λ a. tape_word w s z a (least_held plan a i)) e in
-      let theirs : (i : ℕ) → least_holder plan i ≢ p → value i ≡ got (key w got s p h k i (least_holder plan i) p) = λ i ne. cond-false (nat_eq (least_holder plan i) p) _ _ (ne_eqb (least_holder plan i) p ne) ∙ ap (λ n. got (key w got s p h n i (least_holder plan i) p)) (number_is w got s p h k z at lk) in
+      let mine : (i : ℕ) → holder_of plan i ≡ p → value i ≡ tape_word w s z p (least_held plan p i) = λ i e. cond-true (nat_eq (holder_of plan i) p) _ _ (eq-eqb (holder_of plan i) p e) ∙ ap (λ a. tape_word w s z a (least_held plan a i)) e in
+      let theirs : (i : ℕ) → holder_of plan i ≢ p → value i ≡ got (key w got s p h k i (holder_of plan i) p) = λ i ne. cond-false (nat_eq (holder_of plan i) p) _ _ (ne_eqb (holder_of plan i) p ne) ∙ ap (λ n. got (key w got s p h n i (holder_of plan i) p)) (number_is w got s p h k z at lk) in
       let more : words_before plan p s (suc k) ≡ words_before plan p s k + least_held plan p m = more_words w got s p h k z at in
-      let rows = row_slot z (least_holder plan) v value k count at lk refl (record { all = λ j. refl; same = refl }) refl (λ i a τ. refl) (λ i τ. refl) (λ i r e. refl) theirs σ in
+      let rows = row_slot z (holder_of plan) v value k count at lk refl (record { all = λ j. refl; same = refl }) refl (λ i a τ. refl) (λ i τ. refl) (λ i r e. refl) theirs σ in
       elim (cases_lt 0 (least_held plan p m)) [
         | inl some ↦
             let words : ℕ → ℕ = word_after l σ.drawn in
-            let new : ℕ → ℕ = λ i. if nat_eq (least_holder plan i) p then words (least_held plan p i) else σ.rows v i in
+            let new : ℕ → ℕ = λ i. if nat_eq (holder_of plan i) p then words (least_held plan p i) else σ.rows v i in
             let σ1 : State = drawn_in plan p s words z σ in
             let does : next l (Draw k) σ ≡ σ1 = ap (λ y. drawn_in plan p s words y σ) at in
             rows σ1 (λ u i ne. ap (λ f. f i) (set_there σ.rows v u new ne))
-            (λ i li e. ap (λ f. f i) (set_here σ.rows v v new refl) ∙ cond-true (nat_eq (least_holder plan i) p) _ _ (eq-eqb (least_holder plan i) p e)
+            (λ i li e. ap (λ f. f i) (set_here σ.rows v v new refl) ∙ cond-true (nat_eq (holder_of plan i) p) _ _ (eq-eqb (holder_of plan i) p e)
             ∙ word_is w got s p h k z (least_held plan p i) σ.drawn at lk (counted i li e) ready.drawn ∙ sym (mine i e))
             refl refl
             (record { sums = ready.sums; drawn = ap (λ a. a + least_held plan p m) ready.drawn ∙ sym more; given = ready.given })
@@ -204,5 +204,5 @@ module _ (w : World) (got : Key → ℕ) (s p : ℕ) (h : Runs w s p) where
             (subst (λ ys. Leaving ys (λ τ. τ ≡ σ) σ) (sym (cond-false (nat_lt 0 (words_in plan s p z)) (Draw k ∷ []) [] (le-ltb 0 (words_in plan s p z) none))) (tt, refl))
       ]
     where
-      counted : (i : ℕ) → i < m → least_holder plan i ≡ p → least_held plan p i < least_held plan p m
+      counted : (i : ℕ) → i < m → holder_of plan i ≡ p → least_held plan p i < least_held plan p m
       counted i li e = subst (λ a. least_held plan a i < least_held plan a m) e (held_within plan i m li)

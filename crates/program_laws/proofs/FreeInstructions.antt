@@ -17,7 +17,7 @@ use Rattle.job_session.specs.declared.side.Side.{Side}
 use Rattle.job_session.specs.declared.side.Side.TheVariants.{First, Second}
 use Rattle.job_session.specs.KeptWires.{sets_in, reads_in}
 use Rattle.job_session.specs.Batches.{completes, reads_early}
-use Rattle.job_plan.specs.Plans.{Plan, least_holder, least_held, scheme, session, slot}
+use Rattle.job_plan.specs.Plans.{Plan, holder_of, least_held, scheme, session, slot}
 use Rattle.job_plan.specs.declared.key.Key.{Key}
 use Rattle.share_world.specs.Worlds.{World}
 use Rattle.share_world.proofs.Settled.{is_one, is_first, is_second}
@@ -297,7 +297,7 @@ module _ (w : World) (got : Key → ℕ) (s p : ℕ) where
   draw_passes k t v side e clear =
       let mask : ℕ = mask_wire x t side in
       let sets : Sets (Mask t side) mask = is_one mask mask refl in
-      let new : (ℕ → ℕ) → (ℕ → ℕ) → ℕ → ℕ = λ words row i. if nat_eq (least_holder plan i) p then words (least_held plan p i) else row i in
+      let new : (ℕ → ℕ) → (ℕ → ℕ) → ℕ → ℕ = λ words row i. if nat_eq (holder_of plan i) p then words (least_held plan p i) else row i in
       row_passes (Draw k) (Mask t side) mask v (λ σ. new (word_after l σ.drawn) (σ.rows mask)) (λ n. n + least_held plan p (length plan.groups)) (λ n. n) sets clear
       (λ σ. ap (λ y. drawn_in plan p s (word_after l σ.drawn) y σ) e) (λ σ row q. ap (new (word_after l σ.drawn)) (others σ v mask row (clear.1 mask sets))) (λ σ row q h. h)
 

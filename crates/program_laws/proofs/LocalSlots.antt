@@ -11,14 +11,14 @@ use Rattle.secret_sharing.specs.Schemes.{Run, summands}
 use Rattle.job_session.specs.declared.side.Side.{Side}
 use Rattle.job_session.specs.declared.side.Side.TheVariants.{First, Second}
 use Rattle.job_session.specs.declared.source.Source.{Source}
-use Rattle.job_session.specs.declared.source.Source.TheVariants.{Given as GivenBy, Carried}
+use Rattle.job_session.specs.declared.source.Source.TheVariants.{Given as GivenBy, Earlier}
 use Rattle.job_session.specs.declared.values.KeptWire.{KeptWire}
 use Rattle.job_session.specs.Sessions.{Session, Slot, given_by, owners, readers, source, gate, kept_wire, no_kept, output_wire, is_prepared, mask_wire, product_wire}
 use Rattle.job_session.specs.Sessions.Slot.{Input, At_gate, Output, Mask, Mask_product, Masked, Kept}
 use Rattle.job_session.specs.SlotNumbers.{prepared_before, first_input, first_of_gate}
 use Rattle.job_session.specs.SoundSessions.{Inside, IsWired}
 use Rattle.job_session.proofs.SessionSlots.{slots_are_numbered}
-use Rattle.job_plan.specs.Plans.{Plan, session, slot, slots, slot_number, holds, gives, given_before, opens_to}
+use Rattle.job_plan.specs.Plans.{Plan, session, slot, slots, slot_number, is_holder, gives, given_before, opens_to}
 use Rattle.job_plan.specs.declared.key.Key.{Key}
 use Rattle.share_world.specs.Worlds.{World}
 use Rattle.share_world.specs.Locals.{local_mask, local_mask_product, local_excess, local_run, local_output}
@@ -84,7 +84,7 @@ module _ (w : World) (got : Key → ℕ) (s p : ℕ) (h : Runs w s p) where
 
   -- the wires have these summands, the first products are prepared, and the first outputs are there
   pub record Stands (wire : ℕ → ℕ → ℕ) (prepared count k outs : ℕ) (σ : State) : Type 0 where
-    pub wires : (v i : ℕ) → v < x.wires → i < m → holds plan p i ≡ true → σ.rows v i ≡ wire v i
+    pub wires : (v i : ℕ) → v < x.wires → i < m → is_holder plan p i ≡ true → σ.rows v i ≡ wire v i
     pub trips : (t : ℕ) → t < prepared → is_prepared x t ≡ true → Trip t σ
     pub ready : Ready w got s p h k count σ
     pub outputs : (o : ℕ) → o < outs → opens_to w.plan s p (Output o) ≡ true → σ.outputs o ≡ Some (local_output w got p s o)
@@ -235,7 +235,7 @@ module _ (w : World) (got : Key → ℕ) (s p : ℕ) (h : Runs w s p) where
             let none : one (gives plan s p v) ≡ 0 = cond-false (gives plan s p v) 1 0 (ap (given_by p) is ∙ ne_eqb q p ne) in
             set_input v n lv (omega (arith, none)) (λ σ i. other_input w got s p h v q k n is at.1 at.0 lv σ i.ready ne) up
       ]
-  give v (Carried r c j) lv is up =
+  give v (Earlier r c j) lv is up =
       let at = there (Input v) lv in
       let none : one (gives plan s p v) ≡ 0 = cond-false (gives plan s p v) 1 0 (ap (given_by p) is) in
       set_input v (given_before plan p s v) lv (omega (arith, none)) (λ σ i. carried_input w got s p h v r c j (input_at v) (given_before plan p s v) is at.1 at.0 lv σ i.ready) up

@@ -16,7 +16,7 @@ use Rattle.secret_sharing.specs.Prepared.{masked}
 use Rattle.job_session.specs.declared.side.Side.{Side}
 use Rattle.job_session.specs.Sessions.{Session, Slot, gate, operand, output_wire, mask_wire}
 use Rattle.job_session.specs.Sessions.Slot.{Output, Masked}
-use Rattle.job_plan.specs.Plans.{Plan, scheme, session, slot, slots, holds, least_holder, opens_to, words_in, words_before}
+use Rattle.job_plan.specs.Plans.{Plan, scheme, session, slot, slots, is_holder, holder_of, opens_to, words_in, words_before}
 use Rattle.job_plan.specs.declared.key.Key.{Key}
 use Rattle.job_plan.specs.Firsts.{numbers}
 use Rattle.job_plan.specs.Messages.{slot_messages, open_messages}
@@ -71,7 +71,7 @@ module _ (w : World) (got : Key → ℕ) (s p : ℕ) (h : Runs w s p) where
     pub by_rows : (σ τ : State) (i : ℕ) → τ.rows ≡ σ.rows → held τ i ≡ held σ i
 
   module _ (z : Slot) (held : State → ℕ → ℕ) (value : ℕ → ℕ) (kind : IsOpeningSlot z held value) (k count : ℕ) (at : slot w.plan s k ≡ z) (lk : k < slots w.plan s) (σ : State) (ready : Ready w got s p h k count σ)
-      (holding : (i : ℕ) → i < length w.plan.groups → holds w.plan p i ≡ true → held σ i ≡ value i) where
+      (holding : (i : ℕ) → i < length w.plan.groups → is_holder w.plan p i ≡ true → held σ i ≡ value i) where
     abbrev ns : List ℕ
     ns = filter (to plan p) (numbers plan s k)
 
@@ -86,31 +86,31 @@ module _ (w : World) (got : Key → ℕ) (s p : ℕ) (h : Runs w s p) where
         let i : ℕ = (message plan n).share in
         let r : ℕ = (message plan n).receiver in
         let sender : (message plan n).sender ≡ p = eqb-true _ _ e in
-        let least : least_holder plan i ≡ p = sym (ap (λ (y : Key). y.sender) f.1.0) ∙ sender in (
+        let least : holder_of plan i ≡ p = sym (ap (λ (y : Key). y.sender) f.1.0) ∙ sender in (
           sender,
           ap (λ y. posted plan s y i σ) (slot_is w got s p h k z n _ _ _ at f.1.0) ∙ kind.sent i σ
-              ∙ holding i f.1.1 (subst (λ y. holds plan y i ≡ true) least (least_holds plan (valid w got s p h) i f.1.1))
+              ∙ holding i f.1.1 (subst (λ y. is_holder plan y i ≡ true) least (least_holds plan (valid w got s p h) i f.1.1))
               ∙ sym (kind.word k i r)
               ∙ ap (λ y. local_word_in w got p (key w got s p h k i y r) z) (sym least)
-              ∙ sym (word_of w got s p h k z n i (least_holder plan i) r at f.1.0),
+              ∙ sym (word_of w got s p h k z n i (holder_of plan i) r at f.1.0),
         ))
 
     sent : ℕ → ℕ
-    sent i = got (key w got s p h k i (least_holder plan i) p)
+    sent i = got (key w got s p h k i (holder_of plan i) p)
 
-    open_tally : (r i : ℕ) → key_tally got p i (open_messages plan s k r) ≡ total m (λ j. if not (holds plan r j) then (if nat_eq r p then (if nat_eq i j then got (key w got s p h k j (least_holder plan j) r) else 0) else 0) else 0)
-    open_tally r i = key_tally-joined got p i m (λ j. only_if (not (holds plan r j)) (key w got s p h k j (least_holder plan j) r ∷ []))
-        ∙ total_eq m _ _ (λ j lj. one_tally got p i (not (holds plan r j)) (key w got s p h k j (least_holder plan j) r))
+    open_tally : (r i : ℕ) → key_tally got p i (open_messages plan s k r) ≡ total m (λ j. if not (is_holder plan r j) then (if nat_eq r p then (if nat_eq i j then got (key w got s p h k j (holder_of plan j) r) else 0) else 0) else 0)
+    open_tally r i = key_tally-joined got p i m (λ j. only_if (not (is_holder plan r j)) (key w got s p h k j (holder_of plan j) r ∷ []))
+        ∙ total_eq m _ _ (λ j lj. one_tally got p i (not (is_holder plan r j)) (key w got s p h k j (holder_of plan j) r))
 
     -- the words of summand i that come to p, which reads
-    tally_of : opens_to plan s p z ≡ true → (i : ℕ) → i < m → holds plan p i ≡ false → tally l i ns ≡ sent i
+    tally_of : opens_to plan s p z ≡ true → (i : ℕ) → i < m → is_holder plan p i ≡ false → tally l i ns ≡ sent i
     unfolding sent
     tally_of reads i li lacks =
-        let term : ℕ → ℕ → ℕ = λ r j. if not (holds plan r j) then (if nat_eq r p then (if nat_eq i j then got (key w got s p h k j (least_holder plan j) r) else 0) else 0) else 0 in
-        let others : (r : ℕ) → r ≢ p → key_tally got p i (open_messages plan s k r) ≡ 0 = λ r ne. open_tally r i ∙ total_zero m (term r) (λ j lj. ap (λ y. if not (holds plan r j) then y else 0) (cond-false (nat_eq r p) _ 0 (ne_eqb r p ne)) ∙ no_words (not (holds plan r j))) in
+        let term : ℕ → ℕ → ℕ = λ r j. if not (is_holder plan r j) then (if nat_eq r p then (if nat_eq i j then got (key w got s p h k j (holder_of plan j) r) else 0) else 0) else 0 in
+        let others : (r : ℕ) → r ≢ p → key_tally got p i (open_messages plan s k r) ≡ 0 = λ r ne. open_tally r i ∙ total_zero m (term r) (λ j lj. ap (λ y. if not (is_holder plan r j) then y else 0) (cond-false (nat_eq r p) _ 0 (ne_eqb r p ne)) ∙ no_words (not (is_holder plan r j))) in
         let mine' : key_tally got p i (open_messages plan s k p) ≡ sent i = open_tally p i
-        ∙ total_only m i (term p) li (λ j lj ne. ap (λ y. if not (holds plan p j) then y else 0) (cond-true (nat_eq p p) _ 0 (eq-eqb p p refl) ∙ cond-false (nat_eq i j) _ 0 (ne_eqb i j (λ e. ne (sym e)))) ∙ no_words (not (holds plan p j)))
-        ∙ cond-true (not (holds plan p i)) _ 0 (not_from_false _ lacks) ∙ cond-true (nat_eq p p) _ 0 (eq-eqb p p refl) ∙ cond-true (nat_eq i i) _ 0 (eq-eqb i i refl) in
+        ∙ total_only m i (term p) li (λ j lj ne. ap (λ y. if not (is_holder plan p j) then y else 0) (cond-true (nat_eq p p) _ 0 (eq-eqb p p refl) ∙ cond-false (nat_eq i j) _ 0 (ne_eqb i j (λ e. ne (sym e)))) ∙ no_words (not (is_holder plan p j)))
+        ∙ cond-true (not (is_holder plan p i)) _ 0 (not_from_false _ lacks) ∙ cond-true (nat_eq p p) _ 0 (eq-eqb p p refl) ∙ cond-true (nat_eq i i) _ 0 (eq-eqb i i refl) in
         tally_is l got p i (numbers plan s k) (λ n. refl)
         ∙ ap (key_tally got p i) (keys_are plan s k h.session_there lk)
         ∙ ap (λ y. key_tally got p i (slot_messages plan s k y)) at
@@ -129,10 +129,10 @@ module _ (w : World) (got : Key → ℕ) (s p : ℕ) (h : Runs w s p) where
     -- what p opens
     opened_is : opens_to plan s p z ≡ true → opened plan p (held taken) taken.sums ≡ local_opened w got p s z value
     unfolding sent
-    opened_is reads = mods_of_same (total_same q m _ _ (λ i li. elim (cases_Bool (holds plan p i)) [
-      | inl has ↦ same_refl _ _ _ (cond-true (holds plan p i) _ _ has ∙ kind.by_rows σ taken i took.rows ∙ holding i li has ∙ sym (cond-true (holds plan p i) _ _ has))
-      | inr lacks ↦ same_trans (same_refl _ _ _ (cond-false (holds plan p i) _ _ lacks ∙ took.sums i li ∙ ap (λ y. y % q) (let e = tally_of reads i li lacks in let f : 0 + tally l i ns ≡ sent i = omega (arith, e) in f)))
-          (same_trans (same_mod q (sent i)) (same_refl _ _ _ (ap (λ n. got (key w got s p h n i (least_holder plan i) p)) (sym (number_is w got s p h k z at lk)) ∙ sym (cond-false (holds plan p i) _ _ lacks))))
+    opened_is reads = mods_of_same (total_same q m _ _ (λ i li. elim (cases_Bool (is_holder plan p i)) [
+      | inl has ↦ same_refl _ _ _ (cond-true (is_holder plan p i) _ _ has ∙ kind.by_rows σ taken i took.rows ∙ holding i li has ∙ sym (cond-true (is_holder plan p i) _ _ has))
+      | inr lacks ↦ same_trans (same_refl _ _ _ (cond-false (is_holder plan p i) _ _ lacks ∙ took.sums i li ∙ ap (λ y. y % q) (let e = tally_of reads i li lacks in let f : 0 + tally l i ns ≡ sent i = omega (arith, e) in f)))
+          (same_trans (same_mod q (sent i)) (same_refl _ _ _ (ap (λ n. got (key w got s p h n i (holder_of plan i) p)) (sym (number_is w got s p h k z at lk)) ∙ sym (cond-false (is_holder plan p i) _ _ lacks))))
     ]))
 
     same_drawn : words_before plan p s (suc k) ≡ words_before plan p s k
@@ -184,7 +184,7 @@ module _ (w : World) (got : Key → ℕ) (s p : ℕ) (h : Runs w s p) where
       let held : State → ℕ → ℕ = excess_of plan s t side in
       let value : ℕ → ℕ = masked (scheme plan) (summands run t (operand (gate x t) side)) (local_mask w got p s t side) in
       let kind = masked_kind t side in
-      let holding : (i : ℕ) → i < m → holds plan p i ≡ true → held σ i ≡ value i = λ i li has. ap₂ (λ a b. difference (scheme plan).modulus a b) (wire i li has) (mask' i li has) in
+      let holding : (i : ℕ) → i < m → is_holder plan p i ≡ true → held σ i ≡ value i = λ i li has. ap₂ (λ a b. difference (scheme plan).modulus a b) (wire i li has) (mask' i li has) in
       let τ : State = taken z held value kind k count at lk σ ready holding in
       let t' = took z held value kind k count at lk σ ready holding in
       let is = opened_is z held value kind k count at lk σ ready holding refl in

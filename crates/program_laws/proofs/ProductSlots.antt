@@ -16,7 +16,7 @@ use Rattle.secret_sharing.proofs.SummandSums.{dealt_eq}
 use Rattle.job_session.specs.declared.side.Side.TheVariants.{First, Second}
 use Rattle.job_session.specs.Sessions.{Session, Slot, gate, is_direct, is_prepared, mask_wire, product_wire, product_in}
 use Rattle.job_session.specs.Sessions.Slot.{At_gate, Mask_product}
-use Rattle.job_plan.specs.Plans.{Plan, scheme, session, slot, slots, holds, deals_in, words_in, words_before}
+use Rattle.job_plan.specs.Plans.{Plan, scheme, session, slot, slots, is_holder, deals_in, words_in, words_before}
 use Rattle.job_plan.specs.declared.key.Key.{Key}
 use Rattle.job_plan.specs.Firsts.{numbers}
 use Rattle.job_plan.specs.Messages.{slot_messages, deal_messages, product_messages}
@@ -115,8 +115,8 @@ module _ (w : World) (got : Key → ℕ) (s p : ℕ) (h : Runs w s p) where
   }
 
   module _ (z : Slot) (a b : ℕ → ℕ) (kind : IsProductSlot z a b) (k count : ℕ) (at : slot w.plan s k ≡ z) (lk : k < slots w.plan s) (σ : State) (ready : Ready w got s p h k count σ)
-      (first : (i : ℕ) → i < length w.plan.groups → holds w.plan p i ≡ true → σ.rows (product_in (session w.plan s) z).first i ≡ a i)
-      (second : (i : ℕ) → i < length w.plan.groups → holds w.plan p i ≡ true → σ.rows (product_in (session w.plan s) z).second i ≡ b i) where
+      (first : (i : ℕ) → i < length w.plan.groups → is_holder w.plan p i ≡ true → σ.rows (product_in (session w.plan s) z).first i ≡ a i)
+      (second : (i : ℕ) → i < length w.plan.groups → is_holder w.plan p i ≡ true → σ.rows (product_in (session w.plan s) z).second i ≡ b i) where
     abbrev g : Gate
     g = product_in x z
 
@@ -141,7 +141,7 @@ module _ (w : World) (got : Key → ℕ) (s p : ℕ) (h : Runs w s p) where
     others : ℕ → ℕ → ℕ
     others i r = if has_pair (scheme plan) r then (if nat_eq r p then 0 else got (key w got s p h k i r p)) else 0
 
-    tally_of : (i : ℕ) → i < m → holds plan p i ≡ true → tally l i ns ≡ total plan.parties (others i)
+    tally_of : (i : ℕ) → i < m → is_holder plan p i ≡ true → tally l i ns ≡ total plan.parties (others i)
     unfolding others
     tally_of i li held =
         tally_is l got p i (numbers plan s k) (λ n. refl)
@@ -152,7 +152,7 @@ module _ (w : World) (got : Key → ℕ) (s p : ℕ) (h : Runs w s p) where
         ∙ total_eq plan.parties _ _ (λ r lr. key_tally-only_if got p i (deals_in plan s r z) (deal_messages plan s k r)
         ∙ ap₂ (λ c y. if c then y else 0) (kind.deals r) (deal_tally plan got s k p i h.party_there li held r))
 
-    sums : (i : ℕ) → i < m → holds plan p i ≡ true → (begun i + tally l i ns) % q ≡ product i
+    sums : (i : ℕ) → i < m → is_holder plan p i ≡ true → (begun i + tally l i ns) % q ≡ product i
     unfolding others
     sums i li held =
         let each : ℕ → ℕ = λ r. if has_pair (scheme plan) r then local_deal w got p s z r (own_product (scheme plan) r a b) i else 0 in
@@ -241,7 +241,7 @@ module _ (w : World) (got : Key → ℕ) (s p : ℕ) (h : Runs w s p) where
 
   -- p has these summands of the wire
   abbrev pub Has : State → ℕ → (ℕ → ℕ) → Type 0
-  Has σ v value = (i : ℕ) → i < length w.plan.groups → holds w.plan p i ≡ true → σ.rows v i ≡ value i
+  Has σ v value = (i : ℕ) → i < length w.plan.groups → is_holder w.plan p i ≡ true → σ.rows v i ≡ value i
 
   -- the summands that gate t makes of its wires
   abbrev pub made_at : ℕ → ℕ → ℕ
@@ -280,7 +280,7 @@ module _ (w : World) (got : Key → ℕ) (s p : ℕ) (h : Runs w s p) where
         (λ n f e. absurd (both_ways (deals_in plan s (message plan n).sender (At_gate t)) (silent (message plan n).sender) f.1.3))
 
     -- where only its output is set, in the opening or in the closing
-    quiet : (value real : ℕ → ℕ) (τ : State) → τ ≡ record σ { rows = set_at σ.rows (gate x t).output value } → ((i : ℕ) → i < m → holds plan p i ≡ true → value i ≡ real i)
+    quiet : (value real : ℕ → ℕ) (τ : State) → τ ≡ record σ { rows = set_at σ.rows (gate x t).output value } → ((i : ℕ) → i < m → is_holder plan p i ≡ true → value i ≡ real i)
         → (σ1 : State) → Leaves (Goes w got s p) l (opening plan p s k (At_gate t)) (λ ρ. ρ ≡ σ1) σ → Leaves (Goes w got s p) l (closing plan p s k (At_gate t)) (λ ρ. ρ ≡ τ) σ1
         → Doing k (Rowed w got s p h (gate x t).output real (suc k) count σ) σ
     quiet value real τ is are σ1 opens closes =

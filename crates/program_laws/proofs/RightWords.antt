@@ -10,7 +10,7 @@ use Rattle.job_session.specs.Sessions.{Session, Slot, readers, output_wire}
 use Rattle.job_session.specs.Sessions.Slot.{Output, Kept}
 use Rattle.job_session.specs.SoundSessions.{Inside}
 use Rattle.job_session.proofs.SessionSlots.{slot_there, number_within, slot_count}
-use Rattle.job_plan.specs.Plans.{Plan, IsPlan, session, slots, slot_number, least_holder, reads}
+use Rattle.job_plan.specs.Plans.{Plan, IsPlan, session, slots, slot_number, holder_of, reads}
 use Rattle.job_plan.specs.declared.key.Key.{Key}
 use Rattle.job_plan.specs.Messages.{messages, slot_messages}
 use Rattle.job_plan.proofs.KeptPlaces.{kept_in}
@@ -79,5 +79,5 @@ module _ (w : World) (whole : IsWhole w) (p : ℕ) (lp : p < w.plan.parties) (go
       let all : GotRight w got p s (slots plan s) = got_right s (slots plan s) ls so_far in
       opened_right w valid got p s (Output o) _ (summands (run_of w s) (length x.gates) v)
       (λ i li held. run_right w valid got p s (slots plan s) (length x.gates) (omega (arith, slot_count x)) all v i li held)
-      (λ i li lacks. all.slots (Output o) i (least_holder plan i) lo (number_within x (Output o) lo) li (read, (refl, lacks)) ∙ word_at w s (Output o) i (least_holder plan i) p lo)
+      (λ i li lacks. all.slots (Output o) i (holder_of plan i) lo (number_within x (Output o) lo) li (read, (refl, lacks)) ∙ word_at w s (Output o) i (holder_of plan i) p lo)
       ∙ world_sums w (is_world w whole) s v

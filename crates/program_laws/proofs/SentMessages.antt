@@ -7,7 +7,7 @@ use Rattle.job_session.specs.Sessions.{Slot, owners, source}
 use Rattle.job_session.specs.Sessions.Slot.{Input, At_gate, Output, Mask, Mask_product, Masked, Kept}
 use Rattle.job_session.specs.SoundSessions.{Inside}
 use Rattle.job_session.proofs.SessionSlots.{slots_are_numbered}
-use Rattle.job_plan.specs.Plans.{Plan, IsPlan, session, slot, slots, holds, least_holder}
+use Rattle.job_plan.specs.Plans.{Plan, IsPlan, session, slot, slots, is_holder, holder_of}
 use Rattle.job_plan.specs.declared.key.Key.{Key}
 use Rattle.job_plan.specs.Firsts.{numbers}
 use Rattle.job_plan.specs.Messages.{messages, slot_messages}
@@ -60,8 +60,8 @@ module _ (plan : Plan) (h : IsPlan plan) (s : ℕ) where
   sender_within owned (Kept j) i q p inside li goes = goes.0
 
   -- what is opened goes to another party
-  opens_apart : (i q p : ℕ) → i < length plan.groups → least_holder plan i ≡ q → holds plan p i ≡ false → nat_eq q p ≡ false
-  opens_apart i q p li least lacks = ne_eqb q p (λ e. both_ways (holds plan p i) lacks (subst (λ r. holds plan r i ≡ true) (least ∙ e) (least_holds plan h i li)))
+  opens_apart : (i q p : ℕ) → i < length plan.groups → holder_of plan i ≡ q → is_holder plan p i ≡ false → nat_eq q p ≡ false
+  opens_apart i q p li least lacks = ne_eqb q p (λ e. both_ways (is_holder plan p i) lacks (subst (λ r. is_holder plan r i ≡ true) (least ∙ e) (least_holds plan h i li)))
 
   deals_apart : (q p : ℕ) → p ≢ q → nat_eq q p ≡ false
   deals_apart q p ne = ne_eqb q p (λ e. ne (sym e))

@@ -10,7 +10,7 @@ use Rattle.list_laws.proofs.JoinedLists.{total_within}
 use Rattle.circuit_model.specs.Circuits.{is_product}
 use Rattle.secret_sharing.specs.Schemes.{has_pair}
 use Rattle.job_session.specs.declared.source.Source.{Source}
-use Rattle.job_session.specs.declared.source.Source.TheVariants.{Given, Carried}
+use Rattle.job_session.specs.declared.source.Source.TheVariants.{Given, Earlier}
 use Rattle.job_session.specs.Sessions.{Session, Slot, given_by, readers, source, gate, is_direct, is_prepared, mask_wire, product_wire, product_in, session_slots}
 use Rattle.job_session.specs.Sessions.Slot.{Input, At_gate, Output, Mask, Mask_product, Masked, Kept}
 use Rattle.job_session.specs.declared.side.Side.{Side}
@@ -20,7 +20,7 @@ use Rattle.job_session.specs.SlotNumbers.{first_of_gate, session_slot_number, Sl
 use Rattle.job_session.specs.SoundSessions.{Inside}
 use Rattle.job_session.proofs.KeptRows.{some_found, some_at, sets_one}
 use Rattle.job_session.proofs.SessionSlots.{slots_are_numbered}
-use Rattle.job_plan.specs.Plans.{Plan, scheme, session, slot, slots, holds, least_holder, least_held, words_in, deals_in}
+use Rattle.job_plan.specs.Plans.{Plan, scheme, session, slot, slots, is_holder, holder_of, least_held, words_in, deals_in}
 use Rattle.job_plan.specs.Firsts.{numbers}
 use Rattle.job_plan.specs.Messages.{slot_messages, input_messages}
 use Rattle.job_plan.specs.Numbers.{message, deals_before}
@@ -133,10 +133,10 @@ module _ (plan : Plan) (sound : IsSound plan) (s p : ℕ) (ls : s < length plan.
   deal_there j v (Kept u) lj here e d = absurd d
 
   -- who is the least holder of a summand draws in the slot of a mask
-  draw_there : (j t i : ℕ) (side : Side) → i < m → j < slots plan s → slot plan s j ≡ Mask t side → least_holder plan i ≡ p → Contains es (Draw j)
+  draw_there : (j t i : ℕ) (side : Side) → i < m → j < slots plan s → slot plan s j ≡ Mask t side → holder_of plan i ≡ p → Contains es (Draw j)
   draw_there j t i side li lj here e =
-      let mine : ℕ → ℕ = λ h. if nat_eq (least_holder plan h) p then 1 else 0 in
-      let one : mine i ≡ 1 = cond-true (nat_eq (least_holder plan i) p) 1 0 (eq-eqb (least_holder plan i) p e) in
+      let mine : ℕ → ℕ = λ h. if nat_eq (holder_of plan h) p then 1 else 0 in
+      let one : mine i ≡ 1 = cond-true (nat_eq (holder_of plan i) p) 1 0 (eq-eqb (holder_of plan i) p e) in
       let within : least_held plan p i + mine i ≤ least_held plan p m = total_within m i mine li in
       opened j (Draw j) (Mask t side) lj here (only (nat_lt 0 (words_in plan s p (Mask t side))) (Draw j) (lt-ltb 0 (least_held plan p m) (omega arith)))
 
@@ -208,7 +208,7 @@ module _ (plan : Plan) (sound : IsSound plan) (s p : ℕ) (ls : s < length plan.
       neither true product a b = b
       neither false product a b = a
 
-  input_setter : (v i j u : ℕ) (from : Source) → i < m → holds plan p i ≡ true → j < slots plan s → slot plan s j ≡ Input u → source x u ≡ from → v ≡ u → Setter j v i
+  input_setter : (v i j u : ℕ) (from : Source) → i < m → is_holder plan p i ≡ true → j < slots plan s → slot plan s j ≡ Input u → source x u ≡ from → v ≡ u → Setter j v i
   input_setter v i j u (Given o) li has lj here is same = elim (cases_eq o p) [
     | inl own ↦ record {
       instruction = Deal j (deals_before plan p s j);
@@ -220,15 +220,15 @@ module _ (plan : Plan) (sound : IsSound plan) (s p : ℕ) (ls : s < length plan.
     | inr other ↦ taken_there v i j (Input u) lj here (ap (input_taken plan s j u) is) same (ap (λ z. list_any (nat_eq v) (completes x z)) here ∙ is_one u v same)
         (subst (Any p i) (sym (ap (input_messages plan s j) is)) (deal_any plan s j o p i lp li (λ z. other (sym z)) has))
   ]
-  input_setter v i j u (Carried r c n) li has lj here is same =
+  input_setter v i j u (Earlier r c n) li has lj here is same =
       takes_it v i j (Input u) lj here same (ap (λ z. list_any (nat_eq v) (completes x z)) here ∙ is_one u v same) (carried_has plan (is_plan plan sound s p ls) s u r c n j is here p i lp li has)
 
-  setter : (v i : ℕ) → i < m → holds plan p i ≡ true → (j : ℕ) (z : Slot) → j < slots plan s → slot plan s j ≡ z → list_any (nat_eq v) (sets_in x z) ≡ true → Setter j v i
+  setter : (v i : ℕ) → i < m → is_holder plan p i ≡ true → (j : ℕ) (z : Slot) → j < slots plan s → slot plan s j ≡ z → list_any (nat_eq v) (sets_in x z) ≡ true → Setter j v i
   setter v i li has j (Input u) lj here h = input_setter v i j u (source x u) li has lj here refl (of_one u v h)
   setter v i li has j (Mask t side) lj here h =
       let mask : ℕ = mask_wire x t side in
       let same : v ≡ mask = of_one mask v h in
-      elim (cases_eq (least_holder plan i) p) [
+      elim (cases_eq (holder_of plan i) p) [
         | inl own ↦ record {
           instruction = Draw j;
           stands = draw_there j t i side li lj here own;
@@ -236,7 +236,7 @@ module _ (plan : Plan) (sound : IsSound plan) (s p : ℕ) (ls : s < length plan.
           named = refl;
           late = λ e. never e;
         }
-        | inr other ↦ taken_there v i j (Mask t side) lj here refl same (ap (λ z. list_any (nat_eq v) (completes x z)) here ∙ is_one mask v same) (row_any plan s j (least_holder plan) p i lp li (λ z. other (sym z)) has)
+        | inr other ↦ taken_there v i j (Mask t side) lj here refl same (ap (λ z. list_any (nat_eq v) (completes x z)) here ∙ is_one mask v same) (row_any plan s j (holder_of plan) p i lp li (λ z. other (sym z)) has)
       ]
   setter v i li has j (At_gate t) lj here h = gate_setter v i j t lj here (of_one (gate x t).output v h)
   setter v i li has j (Mask_product t) lj here h = summed v i j (Mask_product t) here tt (of_one (product_wire x t) v h) (closed j (Sum j) (Mask_product t) lj here (0, omega arith, refl))
@@ -574,7 +574,7 @@ module _ (plan : Plan) (sound : IsSound plan) (s p : ℕ) (ls : s < length plan.
         let dealt : deals_in plan s p (At_gate t) ≡ true = (subst (λ z. OwnIn plan sound s p ls lp z w i) here own).0 in
         both_ways (is_direct x t) undealt (and_parts (is_direct x t) (has_pair (scheme plan) p) dealt).0
 
-    held_of : (q w i : ℕ) (e : Instruction) → at es q ≡ e → Finishes e → SetsSummand plan p s e w i → (r : ℕ) → suc q ≤ r → r < length es → Reading plan sound s p ls lp (at es r) w i → (holds plan p i ≡ true) × (is_read x w ≡ true)
+    held_of : (q w i : ℕ) (e : Instruction) → at es q ≡ e → Finishes e → SetsSummand plan p s e w i → (r : ℕ) → suc q ≤ r → r < length es → Reading plan sound s p ls lp (at es r) w i → (is_holder plan p i ≡ true) × (is_read x w ≡ true)
     held_of q w i e is done sets r later end (lk, inl there) = (there.held, some_at (session_slots x) (λ z. slot_reads x z w) (named plan (at es r)) lk there.reads)
     held_of q w i e is done sets r later end (lk, inr own) =
         let set = sets_of plan sound s p ls lp q e is w i sets in
@@ -589,7 +589,7 @@ module _ (plan : Plan) (sound : IsSound plan) (s p : ℕ) (ls : s < length plan.
         unless_direct true product e = refl
         unless_direct false product e = absurd (false≢true e)
 
-        of : (e : Instruction) → at es q ≡ e → Finishes e → OwnIn plan sound s p ls lp (slot plan s (named plan e)) w i → named plan (at es r) ≡ named plan e → (holds plan p i ≡ true) × (is_read x w ≡ true)
+        of : (e : Instruction) → at es q ≡ e → Finishes e → OwnIn plan sound s p ls lp (slot plan s (named plan e)) w i → named plan (at es r) ≡ named plan e → (is_holder plan p i ≡ true) × (is_read x w ≡ true)
         of (Linear k) is done mine same =
             let it = fits plan sound s p ls q (Linear k) is (λ e. cc) in
             absurd (none_own k it.1.0 w i it.1.1 (unless_product x.prepared (is_product (gate x it.1.0).operation) it.1.2) mine)
@@ -614,5 +614,5 @@ module _ (plan : Plan) (sound : IsSound plan) (s p : ℕ) (ls : s < length plan.
         of (Deliver k) is done mine same = absurd done
         of End is done mine same = absurd done
 
-    pub read_is_held : (q w i : ℕ) → Finishes (at es q) → SetsSummand plan p s (at es q) w i → IsToRead plan p s (suc q) w i → (holds plan p i ≡ true) × (is_read x w ≡ true)
+    pub read_is_held : (q w i : ℕ) → Finishes (at es q) → SetsSummand plan p s (at es q) w i → IsToRead plan p s (suc q) w i → (is_holder plan p i ≡ true) × (is_read x w ≡ true)
     read_is_held q w i done sets later = held_of q w i (at es q) refl done sets later.0 later.1 (reads_inside later.0 w i later.2) (reads_at plan sound s p ls lp later.0 w i later.2)

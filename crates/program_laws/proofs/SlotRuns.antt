@@ -9,7 +9,7 @@ use Rattle.list_laws.specs.Lists.{joined, only_if}
 use Rattle.list_laws.proofs.JoinedLists.{every_joined, every_only_if, every_both, total_within}
 use Rattle.job_session.specs.Sessions.{Session, Slot}
 use Rattle.job_session.proofs.SessionSlots.{slots_are_numbered}
-use Rattle.job_plan.specs.Plans.{Plan, IsPlan, session, slot, slots, slot_number, holds, least_holder, deals_in, opens_to, words_in, words_before, words, place}
+use Rattle.job_plan.specs.Plans.{Plan, IsPlan, session, slot, slots, slot_number, is_holder, holder_of, deals_in, opens_to, words_in, words_before, words, place}
 use Rattle.job_plan.specs.declared.key.Key.{Key}
 use Rattle.job_plan.specs.Firsts.{numbers}
 use Rattle.job_plan.specs.Messages.{messages, slot_messages, deal_message, product_messages, open_messages}
@@ -99,7 +99,7 @@ module _ (w : World) (got : Key → ℕ) (s p : ℕ) (h : Runs w s p) where
   -- only this row is another one, and has these summands of those that p holds
   pub record Rowed (row : ℕ) (value : ℕ → ℕ) (k count : ℕ) (σ τ : State) : Type 0 where
     pub others : (u i : ℕ) → u ≢ row → τ.rows u i ≡ σ.rows u i
-    pub here : (i : ℕ) → i < length w.plan.groups → holds w.plan p i ≡ true → τ.rows row i ≡ value i
+    pub here : (i : ℕ) → i < length w.plan.groups → is_holder w.plan p i ≡ true → τ.rows row i ≡ value i
     pub outputs : τ.outputs ≡ σ.outputs
     pub excess : τ.excess ≡ σ.excess
     pub ready : Ready k count τ
@@ -128,7 +128,7 @@ module _ (w : World) (got : Key → ℕ) (s p : ℕ) (h : Runs w s p) where
 
   -- of an opening
   abbrev pub ShownBy : ℕ → Slot → Key → Type 0
-  ShownBy k z y = (y ≡ key k y.share (least_holder w.plan y.share) y.receiver) × (y.share < length w.plan.groups) × (opens_to w.plan s y.receiver z ≡ true)
+  ShownBy k z y = (y ≡ key k y.share (holder_of w.plan y.share) y.receiver) × (y.share < length w.plan.groups) × (opens_to w.plan s y.receiver z ≡ true)
 
   -- of summands that are dealt each by a sender of its own
   abbrev pub RowBy : ℕ → (ℕ → ℕ) → Key → Type 0
@@ -138,15 +138,15 @@ module _ (w : World) (got : Key → ℕ) (s p : ℕ) (h : Runs w s p) where
   other_of r a b e eq = both_ways (not (nat_eq r a)) (not_from_true _ (eq-eqb r a eq)) (and_parts (not (nat_eq r a)) b e).0
 
   pub all_rows : (k : ℕ) (sender : ℕ → ℕ) → AllByRecursion (RowBy k sender) (joined (length w.plan.groups) (λ i. joined w.plan.parties (deal_message w.plan s k (sender i) i)))
-  all_rows k sender = every_joined (RowBy k sender) m _ (λ i li. every_joined (RowBy k sender) plan.parties _ (λ r lr. every_only_if (RowBy k sender) (not (nat_eq r (sender i)) && holds plan r i) (key k i (sender i) r ∷ []) (λ e. ((refl, li, other_of r (sender i) (holds plan r i) e), tt))))
+  all_rows k sender = every_joined (RowBy k sender) m _ (λ i li. every_joined (RowBy k sender) plan.parties _ (λ r lr. every_only_if (RowBy k sender) (not (nat_eq r (sender i)) && is_holder plan r i) (key k i (sender i) r ∷ []) (λ e. ((refl, li, other_of r (sender i) (is_holder plan r i) e), tt))))
 
   pub all_dealt : (k : ℕ) (z : Slot) → AllByRecursion (DealtBy k z) (product_messages w.plan s k z)
   all_dealt k z = every_joined (DealtBy k z) plan.parties _ (λ a la. every_only_if (DealtBy k z) (deals_in plan s a z) _ (λ deals'.
-      every_joined (DealtBy k z) m _ (λ i li. every_joined (DealtBy k z) plan.parties _ (λ r lr. every_only_if (DealtBy k z) (not (nat_eq r a) && holds plan r i) (key k i a r ∷ []) (λ e. ((refl, li, other_of r a (holds plan r i) e, deals'), tt))))))
+      every_joined (DealtBy k z) m _ (λ i li. every_joined (DealtBy k z) plan.parties _ (λ r lr. every_only_if (DealtBy k z) (not (nat_eq r a) && is_holder plan r i) (key k i a r ∷ []) (λ e. ((refl, li, other_of r a (is_holder plan r i) e, deals'), tt))))))
 
   pub all_shown : (k : ℕ) (z : Slot) → AllByRecursion (ShownBy k z) (joined w.plan.parties (λ r. only_if (opens_to w.plan s r z) (open_messages w.plan s k r)))
   all_shown k z = every_joined (ShownBy k z) plan.parties _ (λ r lr. every_only_if (ShownBy k z) (opens_to plan s r z) _ (λ shows.
-      every_joined (ShownBy k z) m _ (λ i li. every_only_if (ShownBy k z) (not (holds plan r i)) (key k i (least_holder plan i) r ∷ []) (λ e. ((refl, li, shows), tt)))))
+      every_joined (ShownBy k z) m _ (λ i li. every_only_if (ShownBy k z) (not (is_holder plan r i)) (key k i (holder_of plan i) r ∷ []) (λ e. ((refl, li, shows), tt)))))
 
   -- its slot, and its word as p has it
   pub slot_is : (k : ℕ) (z : Slot) (n i a b : ℕ) → slot w.plan s k ≡ z → message w.plan n ≡ key k i a b → slot_of w.plan n ≡ z

@@ -4,7 +4,7 @@ use Rattle.std.specs.List.{filter}
 use Rattle.std.proofs.lemmas.Bool.{cases_eq, cases_Bool, cond-true, cond-false, eq-eqb, ne_eqb, and_from, and_left, not_from_false, not_from_true, both_ways}
 use mathlib.Core.Logic.{inl, inr}
 use Rattle.list_laws.specs.Lists.{total, joined, only_if}
-use Rattle.job_plan.specs.Plans.{Plan, holds}
+use Rattle.job_plan.specs.Plans.{Plan, is_holder}
 use Rattle.job_plan.specs.declared.key.Key.{Key}
 use Rattle.job_plan.specs.Messages.{deal_message, deal_messages}
 use Rattle.job_plan.specs.Numbers.{message}
@@ -42,13 +42,13 @@ any_joined p i (suc n) k f l h = elim (cases_eq k n) [
 ]
 
 -- where each summand is dealt by a sender of its own
-pub row_any : (plan : Plan) (s k : ℕ) (sender : ℕ → ℕ) (p i : ℕ) → p < plan.parties → i < length plan.groups → p ≢ sender i → holds plan p i ≡ true → Any p i (joined (length plan.groups) (λ j. joined plan.parties (deal_message plan s k (sender j) j)))
+pub row_any : (plan : Plan) (s k : ℕ) (sender : ℕ → ℕ) (p i : ℕ) → p < plan.parties → i < length plan.groups → p ≢ sender i → is_holder plan p i ≡ true → Any p i (joined (length plan.groups) (λ j. joined plan.parties (deal_message plan s k (sender j) j)))
 row_any plan s k sender p i lp li ne has =
     any_joined p i (length plan.groups) i (λ j. joined plan.parties (deal_message plan s k (sender j) j)) li
     (any_joined p i plan.parties p (deal_message plan s k (sender i) i) lp
-    (subst (Any p i) (sym (cond-true (not (nat_eq p (sender i)) && holds plan p i) _ [] (and_from _ _ (not_from_false _ (ne_eqb p (sender i) ne)) has))) (inl (refl, refl))))
+    (subst (Any p i) (sym (cond-true (not (nat_eq p (sender i)) && is_holder plan p i) _ [] (and_from _ _ (not_from_false _ (ne_eqb p (sender i) ne)) has))) (inl (refl, refl))))
 
-pub deal_any : (plan : Plan) (s k o p i : ℕ) → p < plan.parties → i < length plan.groups → p ≢ o → holds plan p i ≡ true → Any p i (deal_messages plan s k o)
+pub deal_any : (plan : Plan) (s k o p i : ℕ) → p < plan.parties → i < length plan.groups → p ≢ o → is_holder plan p i ≡ true → Any p i (deal_messages plan s k o)
 deal_any plan s k o = row_any plan s k (λ j. o)
 
 pub any_number : (plan : Plan) (p i : ℕ) (ns : List ℕ) → Any p i (map (message plan) ns) → Has plan i (filter (to plan p) ns)
@@ -104,12 +104,12 @@ pub no_words : (b : Bool) → ◌≡◌ {A = ℕ} (if b then 0 else 0) 0
 no_words true = refl
 no_words false = refl
 
-module _ (plan : Plan) (got : Key → ℕ) (s k p i : ℕ) (lp : p < plan.parties) (li : i < length plan.groups) (has : holds plan p i ≡ true) where
+module _ (plan : Plan) (got : Key → ℕ) (s k p i : ℕ) (lp : p < plan.parties) (li : i < length plan.groups) (has : is_holder plan p i ≡ true) where
   abbrev key : ℕ → ℕ → ℕ → Key
   key d j r = record { session = s; slot = k; share = j; sender = d; receiver = r }
 
   abbrev test : ℕ → ℕ → ℕ → Bool
-  test d j r = not (nat_eq r d) && holds plan r j
+  test d j r = not (nat_eq r d) && is_holder plan r j
 
   pub deal_tally : (d : ℕ) → key_tally got p i (deal_messages plan s k d) ≡ (if nat_eq d p then 0 else got (key d i p))
   deal_tally d =

@@ -7,7 +7,7 @@ use Rattle.std.proofs.lemmas.List.{get_or_past}
 use mathlib.Core.Logic.{inl, inr}
 use Rattle.list_laws.proofs.JoinedLists.{every_weaker}
 use Rattle.job_session.specs.declared.source.Source.{Source}
-use Rattle.job_session.specs.declared.source.Source.TheVariants.{Given, Carried}
+use Rattle.job_session.specs.declared.source.Source.TheVariants.{Given, Earlier}
 use Rattle.job_session.specs.declared.values.KeptWire.{KeptWire}
 use Rattle.job_session.specs.Sessions.{Slot, carries, no_kept, no_session, session_slots, source}
 use Rattle.job_session.specs.Sessions.Slot.{Input, At_gate, Output, Mask, Mask_product, Masked, Kept}
@@ -69,7 +69,7 @@ module _ (plan : Plan) (h : IsPlan plan) (t j : ℕ) (lt : t < length plan.sessi
 
   input_from : (v : ℕ) (from : Source) → slot plan t j ≡ Input v → source (session plan t) v ≡ from → TakesFrom plan t j (input_taken plan t j v from)
   input_from v (Given p) is e = own_slot (Input v) is refl refl
-  input_from v (Carried r c i) is e =
+  input_from v (Earlier r c i) is e =
       let it = kept_in plan h t v r c i e in
       let k : ℕ = keeping_slot plan t v r in
       let number : slot_number plan t (Input v) ≡ j = ap (slot_number plan t) (sym is) ∙ at_its_number plan t j lj in
@@ -111,14 +111,14 @@ module _ (plan : Plan) (h : IsPlan plan) (s k : ℕ) (ls : s < length plan.sessi
   -- a carried input has no messages of its own
   given_taken : (v : ℕ) (from : Source) → slot plan s k ≡ Input v → source (session plan s) v ≡ from → 0 < count plan s k → TakenThere plan s k (s, k)
   given_taken v (Given p) is e some = own_taken (Input v) is (ap (input_taken plan s k v) e)
-  given_taken v (Carried r c i) is e some = absurd (
+  given_taken v (Earlier r c i) is e some = absurd (
       let none : count plan s k ≡ 0 = ap (λ z. length (slot_messages plan s k z)) is ∙ ap (λ from. length (input_messages plan s k from)) e in
       omega (arith, some, none))
 
   carried_taken : (r v j : ℕ) (from : Source) → source (session plan r) v ≡ from → carries s from ≡ true → kept_place plan.sessions r v ≡ j → slot plan s k ≡ Kept j
       → input_taken plan r (slot_number plan r (Input v)) v from ≡ numbers plan s k
   carried_taken r v j (Given p) e carried place is = absurd (false≢true carried)
-  carried_taken r v j (Carried q c i) e carried place is =
+  carried_taken r v j (Earlier q c i) e carried place is =
       let same : q ≡ s = eqb-true q s carried in
       ap (λ a. numbers plan a (keeping_slot plan r v a)) same
       ∙ ap (numbers plan s) (ap (λ n. slot_number plan s (Kept n)) place ∙ ap (slot_number plan s) (sym is) ∙ at_its_number plan s k lk)
@@ -156,7 +156,7 @@ module _ (plan : Plan) (h : IsPlan plan) (s k : ℕ) (ls : s < length plan.sessi
 
   carried_later : (r v : ℕ) (from : Source) → source (session plan r) v ≡ from → carries s from ≡ true → s < r
   carried_later r v (Given p) e carried = absurd (false≢true carried)
-  carried_later r v (Carried q c i) e carried = subst (λ z. z < r) (eqb-true q s carried) (h.earlier r v q c i e)
+  carried_later r v (Earlier q c i) e carried = subst (λ z. z < r) (eqb-true q s carried) (h.earlier r v q c i e)
 
   -- there, or in a later session
   pub same_or_later : IsSameOrLater s k (taken_at plan s k)

@@ -10,7 +10,7 @@ use Rattle.job_session.specs.Sessions.Slot.{Input, At_gate, Output, Mask, Mask_p
 use Rattle.job_session.specs.KeptWires.{is_read, slot_sets, slot_reads, sets_in, reads_in}
 use Rattle.job_session.specs.Batches.{completes, slot_completes, is_join}
 use Rattle.job_session.proofs.KeptRows.{sets_one}
-use Rattle.job_plan.specs.Plans.{Plan, IsPlan, scheme, session, slot, slots, holds, least_holder, deals_in}
+use Rattle.job_plan.specs.Plans.{Plan, IsPlan, scheme, session, slot, slots, is_holder, holder_of, deals_in}
 use Rattle.job_plan.specs.declared.key.Key.{Key}
 use Rattle.job_plan.specs.Numbers.{message}
 use Rattle.job_plan.specs.Sound.{IsSound}
@@ -104,15 +104,15 @@ module _ (x : Session) where
 -- ---- who sends a message of a slot deals there, draws the summand of a mask, or holds what is opened or kept
 
 abbrev Sends : Plan → ℕ → ℕ → Slot → ℕ → Type 0
-Sends plan s p (Output o) i = holds plan p i ≡ true
-Sends plan s p (Masked t side) i = holds plan p i ≡ true
-Sends plan s p (Mask t side) i = least_holder plan i ≡ p
-Sends plan s p (Kept j) i = holds plan p i ≡ true
+Sends plan s p (Output o) i = is_holder plan p i ≡ true
+Sends plan s p (Masked t side) i = is_holder plan p i ≡ true
+Sends plan s p (Mask t side) i = holder_of plan i ≡ p
+Sends plan s p (Kept j) i = is_holder plan p i ≡ true
 Sends plan s p z i = deals_in plan s p z ≡ true
 
 module _ (plan : Plan) (h : IsPlan plan) (s : ℕ) where
-  least_of : (i q : ℕ) → i < length plan.groups → least_holder plan i ≡ q → holds plan q i ≡ true
-  least_of i q li least = subst (λ r. holds plan r i ≡ true) least (least_holds plan h i li)
+  least_of : (i q : ℕ) → i < length plan.groups → holder_of plan i ≡ q → is_holder plan q i ≡ true
+  least_of i q li least = subst (λ r. is_holder plan r i ≡ true) least (least_holds plan h i li)
 
   goes_sends : (z : Slot) (i q p : ℕ) → i < length plan.groups → Goes plan s z i q p → Sends plan s q z i
   goes_sends (Input v) i q p li goes = ap (given_by q) goes.0 ∙ eq-eqb q q refl
@@ -121,7 +121,7 @@ module _ (plan : Plan) (h : IsPlan plan) (s : ℕ) where
   goes_sends (Mask t side) i q p li goes = goes.0
   goes_sends (Mask_product t) i q p li goes = goes.1
   goes_sends (Masked t side) i q p li goes = least_of i q li goes.0
-  goes_sends (Kept j) i q p li goes = subst (λ r. holds plan r i ≡ true) (sym goes.1) goes.2
+  goes_sends (Kept j) i q p li goes = subst (λ r. is_holder plan r i ≡ true) (sym goes.1) goes.2
 
 module _ (plan : Plan) (sound : IsSound plan) (s p : ℕ) (ls : s < length plan.sessions) (lp : p < plan.parties) where
   abbrev x : Session
@@ -257,14 +257,14 @@ module _ (plan : Plan) (sound : IsSound plan) (s p : ℕ) (ls : s < length plan.
   -- sets a wire; in a tail the slot is one that reads there, as each does that joins
   pub record ReadsThere (e : Instruction) (v i : ℕ) : Type 0 where
     pub reads : slot_reads x (named plan e) v ≡ true
-    pub held : holds plan p i ≡ true
+    pub held : is_holder plan p i ≡ true
     pub first : part_at e ≡ 0 → (u : ℕ) → slot_sets x (named plan e) u ≡ true → step_at e ≡ 0
     pub tail : part_at e ≡ 1 → ReadsLate x (slot plan s (named plan e))
     pub joins : is_join x (slot plan s (named plan e)) ≡ true → part_at e ≡ 1
 
   -- p sets the summand in the head of the slot: it draws it, or deals the wire
   abbrev pub OwnIn : Slot → ℕ → ℕ → Type 0
-  OwnIn (Mask t side) v i = (v ≡ mask_wire x t side) × (least_holder plan i ≡ p)
+  OwnIn (Mask t side) v i = (v ≡ mask_wire x t side) × (holder_of plan i ≡ p)
   OwnIn z v i = (deals_in plan s p z ≡ true) × Deals x z v
 
   pub own_sets : (z : Slot) (v i : ℕ) → OwnIn z v i → list_any (nat_eq v) (sets_in x z) ≡ true
@@ -280,7 +280,7 @@ module _ (plan : Plan) (sound : IsSound plan) (s p : ℕ) (ls : s < length plan.
   pub record ReadsOwn (e : Instruction) (v i : ℕ) : Type 0 where
     pub own : OwnIn (slot plan s (named plan e)) v i
     pub after : 2 ≤ 2 * part_at e + step_at e
-    pub sum : part_at e ≡ 1 → (is_read x v ≡ true) × (slot_completes x (named plan e) v ≡ true) × (holds plan p i ≡ true)
+    pub sum : part_at e ≡ 1 → (is_read x v ≡ true) × (slot_completes x (named plan e) v ≡ true) × (is_holder plan p i ≡ true)
 
   abbrev pub Reading : Instruction → ℕ → ℕ → Type 0
   Reading e v i = (named plan e < slots plan s) × (ReadsThere e v i ⊎ ReadsOwn e v i)
@@ -289,7 +289,7 @@ module _ (plan : Plan) (sound : IsSound plan) (s p : ℕ) (ls : s < length plan.
   posts_own n j v i z e own = record { own = subst (λ y. OwnIn y v i) (sym e) own; after = omega arith; sum = never 0 1 (omega arith) }
 
   -- a post of what is opened
-  posts_open : (n j v i : ℕ) (z : Slot) → slot plan s (message plan n).slot ≡ z → sets_in x z ≡ [] → is_join x z ≡ false → list_any (nat_eq v) (reads_in x z) ≡ true → holds plan p i ≡ true → ReadsThere (Post n j) v i
+  posts_open : (n j v i : ℕ) (z : Slot) → slot plan s (message plan n).slot ≡ z → sets_in x z ≡ [] → is_join x z ≡ false → list_any (nat_eq v) (reads_in x z) ≡ true → is_holder plan p i ≡ true → ReadsThere (Post n j) v i
   posts_open n j v i z e none unjoined reads held = record {
     reads = ap (λ y. list_any (nat_eq v) (reads_in x y)) e ∙ reads;
     held = held;
@@ -302,9 +302,9 @@ module _ (plan : Plan) (sound : IsSound plan) (s p : ℕ) (ls : s < length plan.
   post_reads n j v i (Input u) e c same by = inr (posts_own n j v i (Input u) e (by, c))
   post_reads n j v i (At_gate t) e c same by = inr (posts_own n j v i (At_gate t) e (by, c))
   post_reads n j v i (Mask_product t) e c same by = inr (posts_own n j v i (Mask_product t) e (by, c))
-  post_reads n j v i (Mask t side) e c same by = inr (posts_own n j v i (Mask t side) e (c, ap (least_holder plan) same ∙ by))
-  post_reads n j v i (Output o) e c same by = inl (posts_open n j v i (Output o) e refl refl (is_one (output_wire x o) v c) (ap (holds plan p) same ∙ by))
-  post_reads n j v i (Kept u) e c same by = inl (posts_open n j v i (Kept u) e refl refl (is_one (kept_wire x u) v c) (ap (holds plan p) same ∙ by))
+  post_reads n j v i (Mask t side) e c same by = inr (posts_own n j v i (Mask t side) e (c, ap (holder_of plan) same ∙ by))
+  post_reads n j v i (Output o) e c same by = inl (posts_open n j v i (Output o) e refl refl (is_one (output_wire x o) v c) (ap (is_holder plan p) same ∙ by))
+  post_reads n j v i (Kept u) e c same by = inl (posts_open n j v i (Kept u) e refl refl (is_one (kept_wire x u) v c) (ap (is_holder plan p) same ∙ by))
   post_reads n j v i (Masked t side) e c same by =
       let a : ℕ = operand (gate x t) side in
       let b : ℕ = mask_wire x t side in
@@ -312,14 +312,14 @@ module _ (plan : Plan) (sound : IsSound plan) (s p : ℕ) (ls : s < length plan.
         | inl one ↦ subst (λ u. list_any (nat_eq u) (a ∷ b ∷ []) ≡ true) (sym one) (is_first a b)
         | inr two ↦ subst (λ u. list_any (nat_eq u) (a ∷ b ∷ []) ≡ true) (sym two) (is_second a b)
       ] in
-      inl (posts_open n j v i (Masked t side) e refl refl reads (ap (holds plan p) same ∙ by))
+      inl (posts_open n j v i (Masked t side) e refl refl reads (ap (is_holder plan p) same ∙ by))
 
   -- the first of a slot that computes in its head
-  reads_first : (e : Instruction) (v i : ℕ) → part_at e ≡ 0 → step_at e ≡ 0 → is_join x (slot plan s (named plan e)) ≡ false → slot_reads x (named plan e) v ≡ true → holds plan p i ≡ true → ReadsThere e v i
+  reads_first : (e : Instruction) (v i : ℕ) → part_at e ≡ 0 → step_at e ≡ 0 → is_join x (slot plan s (named plan e)) ≡ false → slot_reads x (named plan e) v ≡ true → is_holder plan p i ≡ true → ReadsThere e v i
   reads_first e v i head none unjoined reads held = record { reads = reads; held = held; first = λ f u sets. none; tail = λ f. never 0 1 (omega arith) (sym head ∙ f); joins = unless (slot plan s (named plan e)) unjoined }
 
   -- what reads in its tail
-  reads_last : (e : Instruction) (v i : ℕ) → part_at e ≡ 1 → ReadsLate x (slot plan s (named plan e)) → slot_reads x (named plan e) v ≡ true → holds plan p i ≡ true → ReadsThere e v i
+  reads_last : (e : Instruction) (v i : ℕ) → part_at e ≡ 1 → ReadsLate x (slot plan s (named plan e)) → slot_reads x (named plan e) v ≡ true → is_holder plan p i ≡ true → ReadsThere e v i
   reads_last e v i tail late reads held = record { reads = reads; held = held; first = λ f. never 0 1 (omega arith) (sym f ∙ tail); tail = λ f. late; joins = λ f. tail }
 
   reads_of : (q : ℕ) (e : Instruction) → at es q ≡ e → (v i : ℕ) → ReadsSummand plan p s e v i → Reading e v i

@@ -6,7 +6,7 @@ use Rattle.secret_sharing.specs.Schemes.{has_pair}
 use Rattle.job_session.specs.Sessions.{Session, Slot, gate, kept_wire, operand, output_wire, mask_wire, product_wire, product_in}
 use Rattle.job_session.specs.Sessions.Slot.{Input, At_gate, Output, Mask, Mask_product, Masked, Kept}
 use Rattle.job_session.specs.KeptWires.{is_read, reads_in}
-use Rattle.job_plan.specs.Plans.{Plan, holds, least_holder, scheme, session, slot}
+use Rattle.job_plan.specs.Plans.{Plan, is_holder, holder_of, scheme, session, slot}
 use Rattle.party_program.specs.declared.program.Instruction.{Instruction}
 use Rattle.party_program.specs.declared.program.Instruction.TheVariants.{Draw, Deal, Post, Take, Linear, Own, Sum, Open, Join, Deliver}
 use Rattle.party_program.specs.Programs.{program, at}
@@ -45,7 +45,7 @@ Carries s (Kept j) v = v ≡ kept_wire s j
 
 -- the instruction of party p sets summand i of wire v, or what the party has of it before it takes the rest
 abbrev pub SetsSummand : Plan → ℕ → ℕ → Instruction → ℕ → ℕ → Type 0
-SetsSummand plan p s (Draw k) v i = Takes (session plan s) (slot plan s k) v × (least_holder plan i ≡ p)
+SetsSummand plan p s (Draw k) v i = Takes (session plan s) (slot plan s k) v × (holder_of plan i ≡ p)
 SetsSummand plan p s (Deal k d) v i = Deals (session plan s) (slot plan s k) v
 SetsSummand plan p s (Take n j) v i = Takes (session plan s) (taking_slot plan n) v × (i ≡ j)
 SetsSummand plan p s (Linear k) v i = v ≡ (gate_at plan s k).output
@@ -57,14 +57,14 @@ SetsSummand plan p s _ v i = ⊥
 -- product reads what p dealt, if p did and any slot reads the product.
 abbrev pub ReadsSummand : Plan → ℕ → ℕ → Instruction → ℕ → ℕ → Type 0
 ReadsSummand plan p s (Post n j) v i = Carries (session plan s) (slot_of plan n) v × (i ≡ j)
-ReadsSummand plan p s (Linear k) v i = Reads plan s k v × (holds plan p i ≡ true)
-ReadsSummand plan p s (Own k) v i = Reads plan s k v × (holds plan p i ≡ true)
+ReadsSummand plan p s (Linear k) v i = Reads plan s k v × (is_holder plan p i ≡ true)
+ReadsSummand plan p s (Own k) v i = Reads plan s k v × (is_holder plan p i ≡ true)
 ReadsSummand plan p s (Sum k) v i =
     (v ≡ (gate_at plan s k).output) × (has_pair (scheme plan) p ≡ true) × (is_read (session plan s) v ≡ true)
-    × (holds plan p i ≡ true)
-ReadsSummand plan p s (Open k) v i = Reads plan s k v × (holds plan p i ≡ true)
-ReadsSummand plan p s (Join k) v i = Reads plan s k v × (holds plan p i ≡ true)
-ReadsSummand plan p s (Deliver k) v i = Reads plan s k v × (holds plan p i ≡ true)
+    × (is_holder plan p i ≡ true)
+ReadsSummand plan p s (Open k) v i = Reads plan s k v × (is_holder plan p i ≡ true)
+ReadsSummand plan p s (Join k) v i = Reads plan s k v × (is_holder plan p i ≡ true)
+ReadsSummand plan p s (Deliver k) v i = Reads plan s k v × (is_holder plan p i ≡ true)
 ReadsSummand plan p s _ v i = ⊥
 
 -- an instruction before position q sets summand i of wire v

@@ -3,7 +3,7 @@ use Rattle.std.proofs.Common.{◌≡◌, ℕ, zero, suc, ◌<◌, nat_eq, [], le
 use Rattle.std.specs.Prelude.{slice_index_or}
 use Rattle.std.proofs.lemmas.Bool.{cases_eq, cases_lt, cond-true, cond-false, eq-eqb, ne_eqb}
 use Rattle.std.proofs.lemmas.List.{get_or_past}
-use Rattle.job_session.specs.declared.source.Source.TheVariants.{Given, Carried}
+use Rattle.job_session.specs.declared.source.Source.TheVariants.{Given, Earlier}
 use Rattle.job_session.specs.declared.values.KeptWire.{KeptWire}
 use Rattle.job_session.specs.Sessions.{Session, owners, source, no_session, no_kept, kept_wire, output_wire}
 use Rattle.job_session.specs.Carries.{kept_from, kept_place}
@@ -30,21 +30,21 @@ ended_values w (suc n) r l = elim (cases_eq r n) [
 -- ---- what is kept for a carried wire
 
 -- only sessions of the plan carry wires
-pub carrier_there : (plan : Plan) (s v r c i : ℕ) → source (session plan s) v ≡ Carried r c i → s < length plan.sessions
+pub carrier_there : (plan : Plan) (s v r c i : ℕ) → source (session plan s) v ≡ Earlier r c i → s < length plan.sessions
 carrier_there plan s v r c i from = elim (cases_lt s (length plan.sessions)) [
   | inl l ↦ l
   | inr past ↦ absurd (let none : source (session plan s) v ≡ Given 0 = ap (λ (x : Session). source x v) (get_or_past plan.sessions s no_session past) ∙ get_or_past [] v (Given 0) (omega arith) in cc)
 ]
 
 -- and only their input wires are carried
-pub carried_within : (x : Session) (v r c i : ℕ) → source x v ≡ Carried r c i → v < length (owners x)
+pub carried_within : (x : Session) (v r c i : ℕ) → source x v ≡ Earlier r c i → v < length (owners x)
 carried_within x v r c i from = elim (cases_lt v (length (owners x))) [
   | inl l ↦ l
   | inr past ↦ absurd (let none : source x v ≡ Given 0 = get_or_past (owners x) v (Given 0) past in cc)
 ]
 
 -- a wire that is carried from session r is kept there, at its place
-pub kept_there : (plan : Plan) → KeepsCarried plan → (s v r c i : ℕ) → source (session plan s) v ≡ Carried r c i
+pub kept_there : (plan : Plan) → KeepsCarried plan → (s v r c i : ℕ) → source (session plan s) v ≡ Earlier r c i
     → (kept_place plan.sessions s v < length (session plan r).kept) × (kept_wire (session plan r) (kept_place plan.sessions s v) ≡ carried_wire plan r c i)
 kept_there plan keeps s v r c i from =
     let x : Session = session plan r in

@@ -3,13 +3,13 @@ use Rattle.std.proofs.Common.{◌≡◌, ℕ, zero, suc, ◌<◌, ◌≤◌, tru
 use Rattle.std.specs.List.{AllByRecursion}
 use Rattle.std.proofs.lemmas.Bool.{cases_eq}
 use Rattle.list_laws.proofs.JoinedLists.{at_joined}
-use Rattle.job_session.specs.declared.source.Source.TheVariants.{Carried}
+use Rattle.job_session.specs.declared.source.Source.TheVariants.{Earlier}
 use Rattle.job_session.specs.Sessions.{Slot, source}
 use Rattle.job_session.specs.Sessions.Slot.{Kept}
 use Rattle.job_session.specs.Carries.{kept_place}
 use Rattle.job_session.specs.SoundSessions.{Inside}
 use Rattle.job_session.proofs.SessionSlots.{slot_there, number_within}
-use Rattle.job_plan.specs.Plans.{session, slots, slot_number, holds, IsPlan}
+use Rattle.job_plan.specs.Plans.{session, slots, slot_number, is_holder, IsPlan}
 use Rattle.job_plan.specs.declared.key.Key.{Key}
 use Rattle.job_plan.specs.Messages.{messages, slot_messages}
 use Rattle.share_world.specs.Worlds.{World, word}
@@ -41,7 +41,7 @@ module _ (w : World) (h : IsPlan w.plan) (got : ℕ → Key → ℕ) (sent : All
   Right s = (k p : ℕ) → p < w.plan.parties → GotRight w (got p) p s k
 
   module _ (s : ℕ) (ls : s < length w.plan.sessions) (before : (r : ℕ) → r < s → Right r) where
-    kept_right : (p v r c at i : ℕ) → p < w.plan.parties → source (session w.plan s) v ≡ Carried r c at → i < length w.plan.groups → holds w.plan p i ≡ true
+    kept_right : (p v r c at i : ℕ) → p < w.plan.parties → source (session w.plan s) v ≡ Earlier r c at → i < length w.plan.groups → is_holder w.plan p i ≡ true
         → got p (kept_key w.plan r s v i p) ≡ word w (kept_key w.plan r s v i p)
     kept_right p v r c at i lp from li has =
         let z = Kept (kept_place w.plan.sessions s v) in

@@ -12,7 +12,7 @@ use Rattle.secret_sharing.proofs.Agreement.{own_same, gate_agrees, gates_agree, 
 use Rattle.job_session.specs.declared.side.Side.{Side}
 use Rattle.job_session.specs.declared.side.Side.TheVariants.{First, Second}
 use Rattle.job_session.specs.declared.source.Source.{Source}
-use Rattle.job_session.specs.declared.source.Source.TheVariants.{Given, Carried}
+use Rattle.job_session.specs.declared.source.Source.TheVariants.{Given, Earlier}
 use Rattle.job_session.specs.Sessions.{Session, Slot, owners, source, gate, operand}
 use Rattle.job_session.specs.Sessions.Slot.{Input, At_gate, Mask, Mask_product, Masked, Kept}
 use Rattle.job_session.specs.Carries.{kept_place}
@@ -20,7 +20,7 @@ use Rattle.job_session.specs.SoundSessions.{Inside}
 use Rattle.job_session.specs.SlotNumbers.{first_of_gate}
 use Rattle.job_session.proofs.SessionSlots.{slot_there, product_within}
 use Rattle.job_plan.specs.declared.key.Key.{Key}
-use Rattle.job_plan.specs.Plans.{Plan, scheme, session, holds, least_holder, slot_number, IsPlan, CarriesEarlier}
+use Rattle.job_plan.specs.Plans.{Plan, scheme, session, is_holder, holder_of, slot_number, IsPlan, CarriesEarlier}
 use Rattle.job_plan.proofs.PlanSchemes.{duty_is}
 use Rattle.share_world.specs.Worlds.{World, run_of, end_summands, summands_before, source_summands, carried_wire, word, word_in, input_of, tape_word, mask, mask_product, product_of}
 use Rattle.share_world.specs.Locals.{key_at, kept_key, local_deal, local_source, local_mask, local_opened, local_excess, local_mask_product, local_product, local_run, ReadsBefore}
@@ -30,10 +30,10 @@ use Rattle.share_world.proofs.SlotOrder.{mask_first, mask_product_first, input_f
 use Rattle.share_world.proofs.GoingMessages.{Goes}
 
 -- a party's own product is of summands that it holds
-pub holder_own : (plan : Plan) → IsPlan plan → (p : ℕ) (x y x' y' : ℕ → ℕ) → ((i : ℕ) → i < length plan.groups → holds plan p i ≡ true → x i ≡ x' i) → ((i : ℕ) → i < length plan.groups → holds plan p i ≡ true → y i ≡ y' i) → own_product (scheme plan) p x y ≡ own_product (scheme plan) p x' y'
+pub holder_own : (plan : Plan) → IsPlan plan → (p : ℕ) (x y x' y' : ℕ → ℕ) → ((i : ℕ) → i < length plan.groups → is_holder plan p i ≡ true → x i ≡ x' i) → ((i : ℕ) → i < length plan.groups → is_holder plan p i ≡ true → y i ≡ y' i) → own_product (scheme plan) p x y ≡ own_product (scheme plan) p x' y'
 holder_own plan h p x y x' y' ex ey = own_same (scheme plan) p x y x' y' (λ i j li lj e.
     let d = duty_is plan h.q2 i j li lj in
-    same_refl _ _ _ (ap₂ (λ a b. a * b) (ex i li (subst (λ z. holds plan z i ≡ true) e d.1)) (ey j lj (subst (λ z. holds plan z j ≡ true) e d.2))))
+    same_refl _ _ _ (ap₂ (λ a b. a * b) (ex i li (subst (λ z. is_holder plan z i ≡ true) e d.1)) (ey j lj (subst (λ z. is_holder plan z j ≡ true) e d.2))))
 
 -- and of the same summands it is the same
 pub own_alike : (plan : Plan) (p : ℕ) (x y x' y' : ℕ → ℕ) → ((i : ℕ) → i < length plan.groups → x i ≡ x' i) → ((i : ℕ) → i < length plan.groups → y i ≡ y' i) → own_product (scheme plan) p x y ≡ own_product (scheme plan) p x' y'
@@ -48,7 +48,7 @@ joined_same q i ed ee ea eb ec =
 pub record GotRight (w : World) (got : Key → ℕ) (p s k : ℕ) : Type 0 where
   pub slots : (z : Slot) (i q : ℕ) → Inside (session w.plan s) z → slot_number w.plan s z < k → i < length w.plan.groups → Goes w.plan s z i q p
       → got (key_at w.plan s z i q p) ≡ word w (key_at w.plan s z i q p)
-  pub kept : (v r c at i : ℕ) → source (session w.plan s) v ≡ Carried r c at → i < length w.plan.groups → holds w.plan p i ≡ true
+  pub kept : (v r c at i : ℕ) → source (session w.plan s) v ≡ Earlier r c at → i < length w.plan.groups → is_holder w.plan p i ≡ true
       → got (kept_key w.plan r s v i p) ≡ word w (kept_key w.plan r s v i p)
 
 -- the word of a message of a slot
@@ -61,7 +61,7 @@ module _ (w : World) (h : IsPlan w.plan) (got : Key → ℕ) (p s : ℕ) where
 
   -- before gate t the summands that p holds are those of the equations
   abbrev pub RunRight : ℕ → Type 0
-  RunRight t = (v i : ℕ) → i < length w.plan.groups → holds w.plan p i ≡ true → summands (local_run w got p s) t v i ≡ summands (run_of w s) t v i
+  RunRight t = (v i : ℕ) → i < length w.plan.groups → is_holder w.plan p i ≡ true → summands (local_run w got p s) t v i ≡ summands (run_of w s) t v i
 
   got_in : (k : ℕ) (z : Slot) (i q : ℕ) → GotRight w got p s k → Inside x z → slot_number w.plan s z < k → i < length w.plan.groups → Goes w.plan s z i q p
       → got (key_at w.plan s z i q p) ≡ word_in w (key_at w.plan s z i q p) z
@@ -74,11 +74,11 @@ module _ (w : World) (h : IsPlan w.plan) (got : Key → ℕ) (p s : ℕ) where
     | inr ne ↦ cond-false (nat_eq q p) _ _ (ne_eqb q p ne) ∙ is (λ e. ne (sym e))
   ]
 
-  source_right : (k v i : ℕ) (from : Source) → source x v ≡ from → v < length (owners x) → first_of_gate x 0 ≤ k → GotRight w got p s k → i < length w.plan.groups → holds w.plan p i ≡ true
+  source_right : (k v i : ℕ) (from : Source) → source x v ≡ from → v < length (owners x) → first_of_gate x 0 ≤ k → GotRight w got p s k → i < length w.plan.groups → is_holder w.plan p i ≡ true
       → local_source w got p s v from i ≡ source_summands w (summands_before w s) s v from i
   source_right k v i (Given q) from lv le right li has =
       deal_right (Input v) q _ (input_of w s v) i (λ e. refl) (λ ne. got_in k (Input v) i q right lv (omega (arith, input_first x v 0 lv, le)) li (from, (ne, has)))
-  source_right k v i (Carried r c at) from lv le right li has =
+  source_right k v i (Earlier r c at) from lv le right li has =
       let there = kept_there w.plan h.kept s v r c at from in
       right.kept v r c at i from li has
       ∙ word_at w r (Kept (kept_place w.plan.sessions s v)) i p p there.0
@@ -97,14 +97,14 @@ module _ (w : World) (h : IsPlan w.plan) (got : Key → ℕ) (p s : ℕ) where
 
   -- ---- prepared products
 
-  pub own_mask : (t : ℕ) (side : Side) (i : ℕ) → least_holder w.plan i ≡ p → local_mask w got p s t side i ≡ mask w s t side i
-  own_mask t side i e = cond-true (nat_eq (least_holder w.plan i) p) _ _ (eq-eqb (least_holder w.plan i) p e)
+  pub own_mask : (t : ℕ) (side : Side) (i : ℕ) → holder_of w.plan i ≡ p → local_mask w got p s t side i ≡ mask w s t side i
+  own_mask t side i e = cond-true (nat_eq (holder_of w.plan i) p) _ _ (eq-eqb (holder_of w.plan i) p e)
 
-  pub mask_right : (k t : ℕ) (side : Side) (i : ℕ) → GotRight w got p s k → Inside x (Mask t side) → slot_number w.plan s (Mask t side) < k → i < length w.plan.groups → holds w.plan p i ≡ true → local_mask w got p s t side i ≡ mask w s t side i
-  mask_right k t side i right inside less li has = elim (cases_eq (least_holder w.plan i) p) [
+  pub mask_right : (k t : ℕ) (side : Side) (i : ℕ) → GotRight w got p s k → Inside x (Mask t side) → slot_number w.plan s (Mask t side) < k → i < length w.plan.groups → is_holder w.plan p i ≡ true → local_mask w got p s t side i ≡ mask w s t side i
+  mask_right k t side i right inside less li has = elim (cases_eq (holder_of w.plan i) p) [
     | inl e ↦ own_mask t side i e
-    | inr ne ↦ cond-false (nat_eq (least_holder w.plan i) p) _ _ (ne_eqb (least_holder w.plan i) p ne)
-        ∙ got_in k (Mask t side) i (least_holder w.plan i) right inside less li (refl, ((λ e. ne (sym e)), has))
+    | inr ne ↦ cond-false (nat_eq (holder_of w.plan i) p) _ _ (ne_eqb (holder_of w.plan i) p ne)
+        ∙ got_in k (Mask t side) i (holder_of w.plan i) right inside less li (refl, ((λ e. ne (sym e)), has))
   ]
 
   -- what p deals of the masks' product
@@ -114,7 +114,7 @@ module _ (w : World) (h : IsPlan w.plan) (got : Key → ℕ) (p s : ℕ) where
       holder_own w.plan h p _ _ _ _ (λ i li has. mask_right k t First i right inside (omega (arith, mask_first x t First, le)) li has)
       (λ i li has. mask_right k t Second i right inside (omega (arith, mask_first x t Second, le)) li has)
 
-  mask_product_right : (k t i : ℕ) → GotRight w got p s k → Inside x (Mask_product t) → slot_number w.plan s (Mask_product t) < k → i < length w.plan.groups → holds w.plan p i ≡ true → local_mask_product w got p s t i ≡ mask_product w s t i
+  mask_product_right : (k t i : ℕ) → GotRight w got p s k → Inside x (Mask_product t) → slot_number w.plan s (Mask_product t) < k → i < length w.plan.groups → is_holder w.plan p i ≡ true → local_mask_product w got p s t i ≡ mask_product w s t i
   mask_product_right k t i right inside less li has =
       let z = Mask_product t in
       let own = own_masks_right k t right inside (omega (arith, less)) in
@@ -124,15 +124,15 @@ module _ (w : World) (h : IsPlan w.plan) (got : Key → ℕ) (p s : ℕ) where
       (λ ne. got_in k z i q right inside less li (lq, pair, (ne, has))))
 
   -- an opening, where p has the summands that it holds, and got the others
-  pub opened_right : (z : Slot) (held all : ℕ → ℕ) → ((i : ℕ) → i < length w.plan.groups → holds w.plan p i ≡ true → held i ≡ all i)
-      → ((i : ℕ) → i < length w.plan.groups → holds w.plan p i ≡ false → got (key_at w.plan s z i (least_holder w.plan i) p) ≡ all i) → local_opened w got p s z held ≡ sum_of (scheme w.plan) all
-  opened_right z held all here there = ap (λ n. n % 2 ^ w.plan.bits) (total_eq (length w.plan.groups) _ all (λ i li. elim (cases_Bool (holds w.plan p i)) [
-    | inl yes' ↦ cond-true (holds w.plan p i) _ _ yes' ∙ here i li yes'
-    | inr no' ↦ cond-false (holds w.plan p i) _ _ no' ∙ there i li no'
+  pub opened_right : (z : Slot) (held all : ℕ → ℕ) → ((i : ℕ) → i < length w.plan.groups → is_holder w.plan p i ≡ true → held i ≡ all i)
+      → ((i : ℕ) → i < length w.plan.groups → is_holder w.plan p i ≡ false → got (key_at w.plan s z i (holder_of w.plan i) p) ≡ all i) → local_opened w got p s z held ≡ sum_of (scheme w.plan) all
+  opened_right z held all here there = ap (λ n. n % 2 ^ w.plan.bits) (total_eq (length w.plan.groups) _ all (λ i li. elim (cases_Bool (is_holder w.plan p i)) [
+    | inl yes' ↦ cond-true (is_holder w.plan p i) _ _ yes' ∙ here i li yes'
+    | inr no' ↦ cond-false (is_holder w.plan p i) _ _ no' ∙ there i li no'
   ]))
 
   -- summands of a masked wire
-  pub masked_right : (k t : ℕ) (side : Side) (i : ℕ) → GotRight w got p s k → RunRight t → Inside x (Masked t side) → first_of_gate x t ≤ k → i < length w.plan.groups → holds w.plan p i ≡ true
+  pub masked_right : (k t : ℕ) (side : Side) (i : ℕ) → GotRight w got p s k → RunRight t → Inside x (Masked t side) → first_of_gate x t ≤ k → i < length w.plan.groups → is_holder w.plan p i ≡ true
       → masked (scheme w.plan) (summands (local_run w got p s) t (operand (gate x t) side)) (local_mask w got p s t side) i ≡ masked (scheme w.plan) (summands (run_of w s) t (operand (gate x t) side)) (mask w s t side) i
   masked_right k t side i right run inside le li has =
       ap₂ (λ a b. difference (2 ^ w.plan.bits) a b) (run (operand (gate x t) side) i li has)
@@ -143,7 +143,7 @@ module _ (w : World) (h : IsPlan w.plan) (got : Key → ℕ) (p s : ℕ) where
   excess_right k t side right run inside less =
       opened_right (Masked t side) _ _
       (λ i li has. masked_right k t side i right run inside (omega (arith, masked_behind x t side, less)) li has)
-      (λ i li lacks. got_in k (Masked t side) i (least_holder w.plan i) right inside less li (refl, lacks))
+      (λ i li lacks. got_in k (Masked t side) i (holder_of w.plan i) right inside less li (refl, lacks))
 
   -- ---- gates
 
@@ -156,7 +156,7 @@ module _ (w : World) (h : IsPlan w.plan) (got : Key → ℕ) (p s : ℕ) where
       local_product w got p s t (summands (local_run w got p s) t (gate x t).first) (summands (local_run w got p s) t (gate x t).second) i
       ≡ product_of w s t (summands (run_of w s) t (gate x t).first) (summands (run_of w s) t (gate x t).second) i
 
-  prepared_right : (k t i : ℕ) → x.prepared ≡ true → GotRight w got p s k → RunRight t → Inside x (Mask_product t) → first_of_gate x (suc t) ≤ k → i < length w.plan.groups → holds w.plan p i ≡ true → ProductRight t i
+  prepared_right : (k t i : ℕ) → x.prepared ≡ true → GotRight w got p s k → RunRight t → Inside x (Mask_product t) → first_of_gate x (suc t) ≤ k → i < length w.plan.groups → is_holder w.plan p i ≡ true → ProductRight t i
   prepared_right k t i yes' right run inside le li has =
       let here = gate_first x t (suc t) (omega arith) in
       let before = mask_product_first x t (suc t) inside in
@@ -169,7 +169,7 @@ module _ (w : World) (h : IsPlan w.plan) (got : Key → ℕ) (p s : ℕ) where
       (mask_product_right k t i right inside (omega (arith, before, le)) li has)
       ∙ sym (ap (λ (f : ℕ → ℕ). f i) (cond-true x.prepared _ _ yes'))
 
-  direct_right : (k t i : ℕ) → x.prepared ≡ false → is_product (gate x t).operation ≡ true → GotRight w got p s k → RunRight t → first_of_gate x (suc t) ≤ k → i < length w.plan.groups → holds w.plan p i ≡ true → ProductRight t i
+  direct_right : (k t i : ℕ) → x.prepared ≡ false → is_product (gate x t).operation ≡ true → GotRight w got p s k → RunRight t → first_of_gate x (suc t) ≤ k → i < length w.plan.groups → is_holder w.plan p i ≡ true → ProductRight t i
   direct_right k t i no' product right run le li has =
       let z = At_gate t in
       let lt = product_within x t product in
@@ -181,7 +181,7 @@ module _ (w : World) (h : IsPlan w.plan) (got : Key → ℕ) (p s : ℕ) where
       (lq, and_from _ _ (and_from _ _ (not_from_false _ no') product) pair, (ne, has))))
       ∙ sym (ap (λ (f : ℕ → ℕ). f i) (cond-false x.prepared _ _ no'))
 
-  product_right : (k t i : ℕ) → is_product (gate x t).operation ≡ true → GotRight w got p s k → RunRight t → first_of_gate x (suc t) ≤ k → i < length w.plan.groups → holds w.plan p i ≡ true → ProductRight t i
+  product_right : (k t i : ℕ) → is_product (gate x t).operation ≡ true → GotRight w got p s k → RunRight t → first_of_gate x (suc t) ≤ k → i < length w.plan.groups → is_holder w.plan p i ≡ true → ProductRight t i
   product_right k t i product right run le li has = elim (cases_Bool x.prepared) [
     | inl yes' ↦ prepared_right k t i yes' right run (product_within x t product, and_from x.prepared _ yes' product) le li has
     | inr no' ↦ direct_right k t i no' product right run le li has
@@ -193,7 +193,7 @@ module _ (w : World) (h : IsPlan w.plan) (got : Key → ℕ) (p s : ℕ) where
   run_right k (suc t) le right =
       let run : RunRight t = run_right k t (omega (arith, gate_first x t (suc t) (omega arith), le)) right in
       λ v i li has.
-      gate_agrees (run_of w s) (local_run w got p s).start (local_run w got p s).product (λ i. holds w.plan p i ≡ true) t run
+      gate_agrees (run_of w s) (local_run w got p s).start (local_run w got p s).product (λ i. is_holder w.plan p i ≡ true) t run
       (λ product i li has. product_right k t i product right run le li has) v i li has
 
 -- the words of the equations are right
@@ -217,7 +217,7 @@ module _ (w : World) (carries : CarriesEarlier w.plan) (p s n : ℕ) (got later 
 
   source_same : (v i : ℕ) (from : Source) → source y v ≡ from → v < length (owners y) → local_source w got p s v from i ≡ local_source w later p s v from i
   source_same v i (Given q) from lv = deal_same (Input v) q _ _ i refl (input_first y v n lv)
-  source_same v i (Carried r c at) from lv = past (kept_key w.plan r s v i p) (carries s v r c at from)
+  source_same v i (Earlier r c at) from lv = past (kept_key w.plan r s v i p) (carries s v r c at from)
 
   start_same : (v i : ℕ) → (local_run w got p s).start v i ≡ (local_run w later p s).start v i
   start_same v i =
@@ -229,8 +229,8 @@ module _ (w : World) (carries : CarriesEarlier w.plan) (p s n : ℕ) (got later 
 
   mask_same : (t : ℕ) (side : Side) (i : ℕ) → Inside y (Mask t side) → local_mask w got p s t side i ≡ local_mask w later p s t side i
   mask_same t side i inside =
-      ap (λ z. if nat_eq (least_holder w.plan i) p then mask w s t side i else z)
-      (same (key_at w.plan s (Mask t side) i (least_holder w.plan i) p) refl (omega (arith, mask_first y t side, mask_product_first y t n inside)))
+      ap (λ z. if nat_eq (holder_of w.plan i) p then mask w s t side i else z)
+      (same (key_at w.plan s (Mask t side) i (holder_of w.plan i) p) refl (omega (arith, mask_first y t side, mask_product_first y t n inside)))
 
   mask_product_same : (t i : ℕ) → Inside y (Mask_product t) → local_mask_product w got p s t i ≡ local_mask_product w later p s t i
   mask_product_same t i inside =
@@ -240,8 +240,8 @@ module _ (w : World) (carries : CarriesEarlier w.plan) (p s n : ℕ) (got later 
   excess_same : (t : ℕ) (side : Side) (a a' : ℕ → ℕ) → t < n → Inside y (Masked t side) → ((i : ℕ) → i < length w.plan.groups → a i ≡ a' i) → local_excess w got p s t side a ≡ local_excess w later p s t side a'
   excess_same t side a a' l inside alike =
       ap (λ z. z % 2 ^ w.plan.bits) (total_eq (length w.plan.groups) _ _ (λ i li.
-      ap₂ (λ a b. if holds w.plan p i then a else b) (ap₂ (λ a b. difference (2 ^ w.plan.bits) a b) (alike i li) (mask_same t side i inside))
-      (same (key_at w.plan s (Masked t side) i (least_holder w.plan i) p) refl (omega (arith, masked_first y t side inside.1, gate_first y t n l)))))
+      ap₂ (λ a b. if is_holder w.plan p i then a else b) (ap₂ (λ a b. difference (2 ^ w.plan.bits) a b) (alike i li) (mask_same t side i inside))
+      (same (key_at w.plan s (Masked t side) i (holder_of w.plan i) p) refl (omega (arith, masked_first y t side inside.1, gate_first y t n l)))))
 
   product_same : (t i : ℕ) (a b a' b' : ℕ → ℕ) → t < n → is_product (gate y t).operation ≡ true → ((i : ℕ) → i < length w.plan.groups → a i ≡ a' i) → ((i : ℕ) → i < length w.plan.groups → b i ≡ b' i)
       → local_product w got p s t a b i ≡ local_product w later p s t a' b' i

@@ -13,7 +13,7 @@ use Rattle.circuit_model.specs.declared.gate.Operation.TheVariants.{Add, Sub, Ne
 use Rattle.circuit_model.specs.Circuits.{values}
 use Rattle.circuit_model.specs.Netlists.{Netlist, IsCircuit, arity, inputs_read, no_gate, is_set, input_wires, gate as gate_of}
 use Rattle.job_session.specs.declared.source.Source.{Source}
-use Rattle.job_session.specs.declared.source.Source.TheVariants.{Given, Carried}
+use Rattle.job_session.specs.declared.source.Source.TheVariants.{Given, Earlier}
 use Rattle.job_session.specs.declared.values.Owner.{Owner}
 use Rattle.job_session.specs.declared.values.KeptWire.{KeptWire}
 use Rattle.job_session.specs.Sessions.{Session, gate, owners, source}
@@ -92,7 +92,7 @@ start_is w s u carries = ap (λ n. if nat_lt u (length (owners (session w.plan s
   where
     value_is : (from : Source) → source (session w.plan s) u ≡ from → source_value w (values_before w s) s u from ≡ source_value w (plain w) s u from
     value_is (Given p) is = refl
-    value_is (Carried r c i) is = ap (λ (f : ℕ → ℕ). f (carried_wire w.plan r c i)) (ended_values w s r (carries s u r c i is))
+    value_is (Earlier r c i) is = ap (λ (f : ℕ → ℕ). f (carried_wire w.plan r c i)) (ended_values w s r (carries s u r c i is))
 
 -- a value that is 0 past a bound
 within_same : (n a u : ℕ) → (if nat_lt u n then a else 0) ≡ (if nat_lt u n then (if nat_lt u n then a else 0) else 0)

@@ -10,7 +10,7 @@ use Rattle.job_session.proofs.SessionSlots.{slot_there, slot_kinds}
 use Rattle.job_plan.specs.declared.key.Key.{Key}
 use Rattle.job_plan.specs.Messages.{messages, slot_messages}
 use Rattle.job_plan.specs.Numbers.{no_key}
-use Rattle.job_plan.specs.Plans.{Plan, scheme, session, holds, least_holder, slots, slot_number, IsPlan}
+use Rattle.job_plan.specs.Plans.{Plan, scheme, session, is_holder, holder_of, slots, slot_number, IsPlan}
 use Rattle.job_plan.proofs.DistinctMessages.{every_place}
 use Rattle.job_plan.proofs.PlanSchemes.{least_holds, least_within}
 use Rattle.share_world.specs.Worlds.{World, run_of, word, word_in, tape_word}
@@ -37,8 +37,8 @@ module _ (w : World) (h : IsPlan w.plan) (got : Key → ℕ) (p s : ℕ) where
   RightBefore z = p < w.plan.parties → GotRight w got p s (slot_number w.plan s z)
 
   -- the least holder is a party that holds the summand
-  least : (i : ℕ) → i < length w.plan.groups → least_holder w.plan i ≡ p → (p < w.plan.parties) × (holds w.plan p i ≡ true)
-  least i li e = (subst (λ q. q < w.plan.parties) e (least_within w.plan h i li), subst (λ q. holds w.plan q i ≡ true) e (least_holds w.plan h i li))
+  least : (i : ℕ) → i < length w.plan.groups → holder_of w.plan i ≡ p → (p < w.plan.parties) × (is_holder w.plan p i ≡ true)
+  least i li e = (subst (λ q. q < w.plan.parties) e (least_within w.plan h i li), subst (λ q. is_holder w.plan q i ≡ true) e (least_holds w.plan h i li))
 
   -- then it sends right words there
   pub sent_right : (z : Slot) (i r : ℕ) → Inside x z → i < length w.plan.groups → Goes w.plan s z i p r → RightBefore z → local_word_in w got p (key_at w.plan s z i p r) z ≡ word_in w (key_at w.plan s z i p r) z
@@ -58,7 +58,7 @@ module _ (w : World) (h : IsPlan w.plan) (got : Key → ℕ) (p s : ℕ) where
       let own = least i li goes.1.0 in
       run_right w h got p s (slot_number w.plan s (Output o)) (length x.gates) (omega arith) (right own.0) (output_wire x o) i li own.1
   sent_right (Kept j) i r inside li goes right =
-      let has : holds w.plan p i ≡ true = subst (λ q. holds w.plan q i ≡ true) (sym goes.1) goes.2 in
+      let has : is_holder w.plan p i ≡ true = subst (λ q. is_holder w.plan q i ≡ true) (sym goes.1) goes.2 in
       run_right w h got p s (slot_number w.plan s (Kept j)) (length x.gates) (omega arith) (right goes.0) (kept_wire x j) i li has
 
   pub word_right : (z : Slot) (i r : ℕ) → Inside x z → i < length w.plan.groups → Goes w.plan s z i p r → RightBefore z → local_word w got p (key_at w.plan s z i p r) ≡ word w (key_at w.plan s z i p r)
@@ -79,5 +79,5 @@ opened_are_plain w h p s o lo =
     let v : ℕ = output_wire x o in
     opened_right w h.plan (word w) p s (Output o) _ (summands (run_of w s) (length x.gates) v)
     (λ i li has. held_are_dealt w h.plan p s (length x.gates) v i li has)
-    (λ i li lacks. word_at w s (Output o) i (least_holder w.plan i) p lo)
+    (λ i li lacks. word_at w s (Output o) i (holder_of w.plan i) p lo)
     ∙ world_sums w h s v

@@ -9,11 +9,11 @@ use Rattle.secret_sharing.proofs.SummandSums.{dealt_small, summands_below}
 use Rattle.job_plan.specs.declared.key.Key.{Key}
 use Rattle.job_session.specs.declared.side.Side.TheVariants.{First, Second}
 use Rattle.job_session.specs.declared.source.Source.{Source}
-use Rattle.job_session.specs.declared.source.Source.TheVariants.{Given, Carried}
+use Rattle.job_session.specs.declared.source.Source.TheVariants.{Given, Earlier}
 use Rattle.job_session.specs.Sessions.{Slot, owners, source}
 use Rattle.job_session.specs.Sessions.Slot.{Input, At_gate, Output, Mask, Mask_product, Masked, Kept}
 use Rattle.job_plan.proofs.PlanSchemes.{plan_is}
-use Rattle.job_plan.specs.Plans.{scheme, session, least_holder, slot, slot_number, place, IsPlan}
+use Rattle.job_plan.specs.Plans.{scheme, session, holder_of, slot, slot_number, place, IsPlan}
 use Rattle.share_world.specs.Worlds.{World, run_after, run_of, end_summands, summands_before, source_summands, carried_wire, input_of, tape_word, first_summands, mask, mask_product, dealt_product, dealt_value, deal_of, word_in, word}
 use Rattle.share_world.specs.Laws.{IsWorld, IsWhole}
 
@@ -39,7 +39,7 @@ module _ (w : World) (whole : IsWhole w) where
 
   small_source : (before : ℕ → ℕ → ℕ → ℕ) → Small before → (s v i : ℕ) (from : Source) → source_summands w before s v from i < 2 ^ w.plan.bits
   small_source before small s v i (Given p) = dealt_small (scheme w.plan) (input_of w s v) _ i positive (small_words s p (Input v))
-  small_source before small s v i (Carried r c at) = small r (carried_wire w.plan r c at) i
+  small_source before small s v i (Earlier r c at) = small r (carried_wire w.plan r c at) i
 
   small_start : (before : ℕ → ℕ → ℕ → ℕ) → Small before → (s v i : ℕ) → first_summands w before s v i < 2 ^ w.plan.bits
   small_start before small s v i =
@@ -64,7 +64,7 @@ module _ (w : World) (whole : IsWhole w) where
   small_in k (Input v) = small_deal k.session k.sender (Input v) k.share
   small_in k (At_gate t) = small_deal k.session k.sender (At_gate t) k.share
   small_in k (Output o) = small_run k.session _ _ k.share
-  small_in k (Mask t side) = small_words k.session (least_holder w.plan k.share) (Mask t side) _
+  small_in k (Mask t side) = small_words k.session (holder_of w.plan k.share) (Mask t side) _
   small_in k (Mask_product t) = small_deal k.session k.sender (Mask_product t) k.share
   small_in k (Masked t side) = mod-lt _ positive
   small_in k (Kept j) = small_run k.session _ _ k.share

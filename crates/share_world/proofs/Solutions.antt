@@ -9,7 +9,7 @@ use Rattle.secret_sharing.specs.Schemes.{dealt, local, own_product, own_value, h
 use Rattle.secret_sharing.specs.Prepared.{masked, sum_of, prepared_summand}
 use Rattle.job_session.specs.declared.side.Side.TheVariants.{First, Second}
 use Rattle.job_session.specs.declared.source.Source.{Source}
-use Rattle.job_session.specs.declared.source.Source.TheVariants.{Given, Carried}
+use Rattle.job_session.specs.declared.source.Source.TheVariants.{Given, Earlier}
 use Rattle.job_session.specs.Sessions.{owners, source, given_by, Session, Slot, gate, is_direct, is_prepared}
 use Rattle.job_session.specs.SoundSessions.{Inside}
 use Rattle.job_plan.specs.Plans.{scheme, session, deals_in, CarriesEarlier}
@@ -76,7 +76,7 @@ unset_zero w s (suc t) v i no' =
 -- who gives a wire is its source
 giver_is : (p : ℕ) (from : Source) → given_by p from ≡ true → from ≡ Given p
 giver_is p (Given q) e = ap (λ n. Given n) (eqb-true q p e)
-giver_is p (Carried r c at) e = absurd (both_ways false refl e)
+giver_is p (Earlier r c at) e = absurd (both_ways false refl e)
 
 -- the wires of the sessions before s have their summands
 abbrev Earlier : World → (ℕ → ℕ → ℕ → ℕ) → ℕ → Type 0
@@ -151,7 +151,7 @@ module _ (w : World) (s : ℕ) (c : GatesInOrder (session w.plan s)) (carries : 
 
   source_is : (v i : ℕ) (from : Source) → v < length (owners x) → source x v ≡ from → i < length w.plan.groups → sh s v i ≡ source_summands w (summands_before w s) s v from i
   source_is v i (Given p) lv from li = h.given v p i lv from ∙ h.input_deals v p i lv from
-  source_is v i (Carried r k at) lv from li =
+  source_is v i (Earlier r k at) lv from li =
       let less = carries s v r k at from in
       h.carried v r k at i from ∙ before r (carried_wire w.plan r k at) i less li
       ∙ ap (λ (f : ℕ → ℕ → ℕ). f (carried_wire w.plan r k at) i) (sym (ended_summands w s r less))
@@ -216,7 +216,7 @@ solution w s c carries = record {
   mask_deals = λ t p i l e. refl;
   given = λ v p i l from. start v i (Given p) l from;
   carried = λ v r k at i from.
-      start v i (Carried r k at) (carried_within (session w.plan s) v r k at from) from
+      start v i (Earlier r k at) (carried_within (session w.plan s) v r k at from) from
       ∙ ap (λ (f : ℕ → ℕ → ℕ). f (carried_wire w.plan r k at) i) (ended_summands w s r (carries s v r k at from));
   linear = λ t i l e.
       let g = gate (session w.plan s) t in

@@ -8,7 +8,7 @@ use Rattle.secret_sharing.specs.Schemes.{IsRun, AddUp, dealt, summands}
 use Rattle.secret_sharing.specs.Prepared.{sum_of}
 use Rattle.job_session.specs.declared.side.Side.TheVariants.{First, Second}
 use Rattle.job_session.specs.declared.source.Source.{Source}
-use Rattle.job_session.specs.declared.source.Source.TheVariants.{Given, Carried}
+use Rattle.job_session.specs.declared.source.Source.TheVariants.{Given, Earlier}
 use Rattle.job_session.specs.Sessions.{owners, source, Slot}
 use Rattle.job_session.specs.Sessions.Slot.{Input, At_gate, Mask_product}
 use Rattle.job_plan.specs.Plans.{scheme, session, IsPlan}
@@ -53,13 +53,13 @@ module _ (w : World) (h : IsWorld w) where
 
   small_input : (s v : ℕ) (from : Source) → source_input w s v from < q
   small_input s v (Given p) = h.inputs p s _
-  small_input s v (Carried r c i) = pow_pos w.plan.bits
+  small_input s v (Earlier r c i) = pow_pos w.plan.bits
 
   source_adds : (before : ℕ → ℕ → ℕ → ℕ) (plains : ℕ → ℕ → ℕ) → Adds before plains → (s v : ℕ) (from : Source)
       → total m (source_summands w before s v from) % q ≡ source_value w plains s v from
   source_adds before plains adds s v (Given p) =
       mods_of_same (dealt_sum (scheme w.plan) (scheme_is w.plan h.plan) (input_of w s v) (tape_word w s (Input v) p)) ∙ mod-eq_of_lt (small_input s v (source (session w.plan s) v))
-  source_adds before plains adds s v (Carried r c i) = adds r (carried_wire w.plan r c i)
+  source_adds before plains adds s v (Earlier r c i) = adds r (carried_wire w.plan r c i)
 
   start_adds : (before : ℕ → ℕ → ℕ → ℕ) (plains : ℕ → ℕ → ℕ) → Adds before plains → (s : ℕ) → AddUp (scheme w.plan) (first_summands w before s) (first_values w plains s)
   start_adds before plains adds s v =

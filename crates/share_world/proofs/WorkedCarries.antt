@@ -4,7 +4,7 @@ use Rattle.std.specs.Prelude.{All, slice_index, slice_index_or}
 use Rattle.std.specs.List.{AllByRecursion}
 use Rattle.std.proofs.lemmas.Bool.{ne_eqb}
 use Rattle.list_laws.specs.Lists.{total, only_if}
-use Rattle.job_session.specs.declared.source.Source.TheVariants.{Given, Carried as CarriedWire}
+use Rattle.job_session.specs.declared.source.Source.TheVariants.{Given, Earlier}
 use Rattle.job_session.specs.declared.values.KeptWire.{KeptWire}
 use Rattle.job_session.specs.declared.values.Owner.TheVariants.{Party, Carried}
 use Rattle.job_session.specs.SoundSessions.{IsSoundSession}
@@ -18,7 +18,7 @@ use Rattle.job_plan.specs.InputWords.{AreInputs, given}
 use Rattle.job_plan.specs.Tallies.{tape_length}
 use Rattle.share_world.specs.Laws.{AreTapes}
 use Rattle.share_world.specs.CarriedProduct.{kept_session, carrying_session, carried_plan, carried_world, CarriedPlain, CarriedWhole, CarriedWords}
-use Rattle.share_world.proofs.CarriedWires.{carrier_there}
+use Rattle.share_world.proofs.Earliers.{carrier_there}
 use Rattle.share_world.proofs.WorkedProduct.{product_of, sound_product, small_party, small_lists, no_cover}
 
 pub carried_plain : CarriedPlain
@@ -42,7 +42,7 @@ sound_kept = sound_with 3 (product_of (Party 0) (Party 1) 0) false kept_session.
 sound_carrying : IsSoundSession 3 carrying_session
 sound_carrying = sound_product (Carried 0 0) (Party 0) 4 (λ p e. absurd (none p e)) (λ p e. small_party 0 p (omega arith) e) (omega arith)
   where
-    none : (p : ℕ) → CarriedWire 0 0 0 ≡ Given p → ⊥
+    none : (p : ℕ) → Earlier 0 0 0 ≡ Given p → ⊥
     none p e = cc
 
 few_messages : length (messages carried_plan) ≤ 1048576
@@ -78,7 +78,7 @@ sound = record {
     sessions (suc zero) l = sound_carrying
     sessions (suc (suc s)) l = absurd (omega arith)
 
-    earlier : (s v r c i : ℕ) → source (session carried_plan s) v ≡ CarriedWire r c i → r < s
+    earlier : (s v r c i : ℕ) → source (session carried_plan s) v ≡ Earlier r c i → r < s
     earlier zero zero r c i from = cc
     earlier zero (suc zero) r c i from = cc
     earlier zero (suc (suc v)) r c i from = cc

@@ -9,7 +9,7 @@ use Rattle.party_set.specs.Parties.{IsQ2, covers}
 use Rattle.job_session.specs.KeptWires.{IsInOrder, slot_sets, slot_reads}
 use Rattle.circuit_model.specs.declared.gate.Gate.{Gate}
 use Rattle.circuit_model.specs.declared.gate.Operation.TheVariants.{Mul}
-use Rattle.job_session.specs.declared.source.Source.TheVariants.{Given, Carried}
+use Rattle.job_session.specs.declared.source.Source.TheVariants.{Given, Earlier}
 use Rattle.job_session.specs.declared.values.Owner.{Owner}
 use Rattle.job_session.specs.declared.values.Owner.TheVariants.{Party}
 use Rattle.job_session.specs.Sessions.{Session, owners, source, source_from, giver, gate, slot_list}
@@ -173,7 +173,7 @@ sound = record {
     sessions zero l = sound_session
     sessions (suc s) l = absurd (omega arith)
 
-    none : (s v r c i : ℕ) → source (session (multiply_plan 8) s) v ≡ Carried r c i → ⊥
+    none : (s v r c i : ℕ) → source (session (multiply_plan 8) s) v ≡ Earlier r c i → ⊥
     none zero zero r c i from = cc
     none zero (suc zero) r c i from = cc
     none zero (suc (suc v)) r c i from = cc

@@ -3,7 +3,7 @@ use Rattle.std.specs.Prelude.{◌≡◌, ℕ, ◌%◌, ◌^◌, ◌<◌, true, L
 use Rattle.list_laws.specs.Lists.{total}
 use Rattle.secret_sharing.specs.Schemes.{summands}
 use Rattle.job_session.specs.Sessions.{output_wire, readers}
-use Rattle.job_plan.specs.Plans.{Plan, IsPlan, holds, session}
+use Rattle.job_plan.specs.Plans.{Plan, IsPlan, is_holder, session}
 use Rattle.job_plan.specs.Sound.{IsSound}
 use Rattle.job_plan.specs.Messages.{messages}
 use Rattle.job_plan.specs.Numbers.{message}
@@ -43,7 +43,7 @@ SumIsPlain w =
 -- the summands that a party holds are those of the equations
 abbrev pub HeldAreDealt : World → Type 0
 HeldAreDealt w =
-    (p s t v i : ℕ) → i < length w.plan.groups → holds w.plan p i ≡ true
+    (p s t v i : ℕ) → i < length w.plan.groups → is_holder w.plan p i ≡ true
     → summands (local_run w (word w) p s) t v i ≡ summands (run_of w s) t v i
 
 -- the words that it sends are those of the equations

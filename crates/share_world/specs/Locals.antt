@@ -6,13 +6,13 @@ use Rattle.secret_sharing.specs.Schemes.{Run, dealt, own_product, product_summan
 use Rattle.secret_sharing.specs.Prepared.{masked, joined_summand}
 use Rattle.job_plan.specs.declared.key.Key.{Key}
 use Rattle.job_session.specs.declared.source.Source.{Source}
-use Rattle.job_session.specs.declared.source.Source.TheVariants.{Given, Carried}
+use Rattle.job_session.specs.declared.source.Source.TheVariants.{Given, Earlier}
 use Rattle.job_session.specs.Sessions.{owners, source, gate, operand, output_wire, kept_wire, Slot}
 use Rattle.job_session.specs.Carries.{kept_place}
 use Rattle.job_session.specs.declared.side.Side.{Side}
 use Rattle.job_session.specs.declared.side.Side.TheVariants.{First, Second}
 use Rattle.job_session.specs.SlotNumbers.{first_of_gate}
-use Rattle.job_plan.specs.Plans.{Plan, holds, least_holder, scheme, session, slot, slot_number}
+use Rattle.job_plan.specs.Plans.{Plan, is_holder, holder_of, scheme, session, slot, slot_number}
 use Rattle.job_plan.specs.Messages.{messages}
 use Rattle.job_session.specs.Sessions.Slot.{Input, At_gate, Output, Mask, Mask_product, Masked, Kept}
 use Rattle.share_world.specs.Worlds.{World, input_of, tape_word, mask, word}
@@ -33,14 +33,14 @@ local_deal w got p s kind q value i =
 -- summand i of a mask: a word of its own where p is the least holder, and else what it got
 abbrev pub local_mask : World → (Key → ℕ) → ℕ → ℕ → ℕ → Side → ℕ → ℕ
 local_mask w got p s t side i =
-    let q = least_holder w.plan i in
+    let q = holder_of w.plan i in
     if nat_eq q p then mask w s t side i else got (key_at w.plan s (Mask t side) i q p)
 
 -- the sum of the summands that p holds, and of those of a slot's opening that it got
 abbrev pub local_opened : World → (Key → ℕ) → ℕ → ℕ → Slot → (ℕ → ℕ) → ℕ
 local_opened w got p s kind held =
     total (length w.plan.groups) (λ i.
-    if holds w.plan p i then held i else got (key_at w.plan s kind i (least_holder w.plan i) p))
+    if is_holder w.plan p i then held i else got (key_at w.plan s kind i (holder_of w.plan i) p))
     % 2 ^ w.plan.bits
 
 -- what p opens of a wire with these summands: what it has more than its mask
@@ -66,7 +66,7 @@ local_product w got p s t x y =
 -- summand i of input wire v, with this source: its giver's deal, or what p kept of the wire that it carries
 abbrev pub local_source : World → (Key → ℕ) → ℕ → ℕ → ℕ → Source → ℕ → ℕ
 local_source w got p s v (Given q) i = local_deal w got p s (Input v) q (input_of w s v) i
-local_source w got p s v (Carried r c at) i = got (kept_key w.plan r s v i p)
+local_source w got p s v (Earlier r c at) i = got (kept_key w.plan r s v i p)
 
 -- summand i of the input wires, and 0 for any other wire
 abbrev pub local_start : World → (Key → ℕ) → ℕ → ℕ → ℕ → ℕ → ℕ

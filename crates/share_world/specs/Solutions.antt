@@ -6,7 +6,7 @@ use Rattle.circuit_model.specs.Circuits.{is_product}
 use Rattle.circuit_model.specs.Netlists.{arity, is_constant}
 use Rattle.secret_sharing.specs.Schemes.{dealt, local, own_product, has_pair}
 use Rattle.secret_sharing.specs.Prepared.{prepared_summand}
-use Rattle.job_session.specs.declared.source.Source.TheVariants.{Given, Carried}
+use Rattle.job_session.specs.declared.source.Source.TheVariants.{Given, Earlier}
 use Rattle.job_session.specs.Sessions.{owners, source, Session, Slot, gate, is_direct, is_prepared}
 use Rattle.job_session.specs.Sessions.Slot.{Input, At_gate, Mask_product}
 use Rattle.job_session.specs.declared.side.Side.TheVariants.{First, Second}
@@ -57,7 +57,7 @@ pub record SummandsSolve (w : World) (s : ℕ) (summand : ℕ → ℕ → ℕ �
       (tape_word w s (Mask_product t) p) i
   pub given : (v p i : ℕ) → v < length (owners (session w.plan s)) → source (session w.plan s) v ≡ Given p
       → summand s v i ≡ deal s p (Input v) i
-  pub carried : (v r c at i : ℕ) → source (session w.plan s) v ≡ Carried r c at
+  pub carried : (v r c at i : ℕ) → source (session w.plan s) v ≡ Earlier r c at
       → summand s v i ≡ summand r (carried_wire w.plan r c at) i
   pub linear : (t i : ℕ) → t < length (session w.plan s).gates
       → is_product (gate (session w.plan s) t).operation ≡ false
@@ -96,5 +96,5 @@ IsSolution w = IsOrdered w.plan → AllSolve w (end_summands w) (deal_of w)
 -- a carried wire has the value of the wire that it carries
 abbrev pub CarriedArePlain : World → Type 0
 CarriedArePlain w =
-    IsOrdered w.plan → (s v r c at : ℕ) → source (session w.plan s) v ≡ Carried r c at
+    IsOrdered w.plan → (s v r c at : ℕ) → source (session w.plan s) v ≡ Earlier r c at
     → plain w s v ≡ plain w r (carried_wire w.plan r c at)

@@ -4,11 +4,11 @@ use Rattle.circuit_model.specs.Circuits.{set_at, values}
 use Rattle.secret_sharing.specs.Schemes.{Run, dealt, own_product, product_summand, own_value, summands}
 use Rattle.secret_sharing.specs.Prepared.{masked, prepared_summand}
 use Rattle.job_session.specs.declared.source.Source.{Source}
-use Rattle.job_session.specs.declared.source.Source.TheVariants.{Given, Carried}
+use Rattle.job_session.specs.declared.source.Source.TheVariants.{Given, Earlier}
 use Rattle.job_session.specs.Sessions.{owners, source, output_wire, carried_output, kept_wire, operand, Slot, gate}
 use Rattle.job_session.specs.declared.side.Side.{Side}
 use Rattle.job_session.specs.declared.side.Side.TheVariants.{First, Second}
-use Rattle.job_plan.specs.Plans.{Plan, scheme, session, slot, slot_number, place, given_before, least_holder, least_held}
+use Rattle.job_plan.specs.Plans.{Plan, scheme, session, slot, slot_number, place, given_before, holder_of, least_held}
 use Rattle.job_plan.specs.declared.key.Key.{Key}
 use Rattle.job_plan.specs.Messages.{messages}
 use Rattle.party_set.specs.Parties.{has_party}
@@ -25,7 +25,7 @@ pub record World : Type 0 where
 abbrev pub source_input : World → ℕ → ℕ → Source → ℕ
 source_input w s v (Given p) =
     slice_index (slice_index_or (slice_index_or w.inputs p []) s []) (given_before w.plan p s v)
-source_input w s v (Carried r c i) = 0
+source_input w s v (Earlier r c i) = 0
 
 -- the input of wire v
 abbrev pub input_of : World → ℕ → ℕ → ℕ
@@ -40,7 +40,7 @@ tape_word w s kind p i = slice_index (slice_index_or w.tapes p []) (place w.plan
 -- summand i of a mask is a word of its least holder
 abbrev pub mask : World → ℕ → ℕ → Side → ℕ → ℕ
 mask w s t side i =
-    let p = least_holder w.plan i in
+    let p = holder_of w.plan i in
     tape_word w s (Mask t side) p (least_held w.plan p i)
 
 -- summand i of the product of x and y, where each party deals its part in this slot
@@ -62,12 +62,12 @@ product_of w s t x y =
 
 -- the wire of session r that is wire i of its output value c
 abbrev pub carried_wire : Plan → ℕ → ℕ → ℕ → ℕ
-carried_wire plan r c i = output_wire (session plan r) (carried_output (session plan r) (Carried r c i))
+carried_wire plan r c i = output_wire (session plan r) (carried_output (session plan r) (Earlier r c i))
 
 -- the summands of an input wire with this source: its giver's deal, or what the wire that it carries ended with
 abbrev pub source_summands : World → (ℕ → ℕ → ℕ → ℕ) → ℕ → ℕ → Source → ℕ → ℕ
 source_summands w before s v (Given p) = dealt (scheme w.plan) (input_of w s v) (tape_word w s (Input v) p)
-source_summands w before s v (Carried r c i) = before r (carried_wire w.plan r c i)
+source_summands w before s v (Earlier r c i) = before r (carried_wire w.plan r c i)
 
 -- the summands of the input wires, and 0 for any other wire
 abbrev pub first_summands : World → (ℕ → ℕ → ℕ → ℕ) → ℕ → ℕ → ℕ → ℕ
@@ -88,7 +88,7 @@ run_after w before s = record {
 -- the value of an input wire with this source: its input, or what the wire that it carries ended with
 abbrev pub source_value : World → (ℕ → ℕ → ℕ) → ℕ → ℕ → Source → ℕ
 source_value w before s v (Given p) = input_of w s v
-source_value w before s v (Carried r c i) = before r (carried_wire w.plan r c i)
+source_value w before s v (Earlier r c i) = before r (carried_wire w.plan r c i)
 
 -- the values of the input wires, and 0 for any other wire
 abbrev pub first_values : World → (ℕ → ℕ → ℕ) → ℕ → ℕ → ℕ

@@ -17,7 +17,7 @@ use Rattle.party_set.specs.Parties.{has_party}
 use Rattle.job_session.specs.declared.side.Side.{Side}
 use Rattle.job_session.specs.declared.side.Side.TheVariants.{First, Second}
 use Rattle.job_session.specs.declared.source.Source.{Source}
-use Rattle.job_session.specs.declared.source.Source.TheVariants.{Given, Carried}
+use Rattle.job_session.specs.declared.source.Source.TheVariants.{Given, Earlier}
 use Rattle.job_session.specs.Sessions.{Session, Slot, given_by, owners, source, gate, operand, is_direct, is_prepared, mask_wire}
 use Rattle.job_session.specs.Sessions.Slot.{Input, At_gate, Output, Mask, Mask_product, Masked, Kept}
 use Rattle.job_session.specs.SoundSessions.{Inside}
@@ -160,7 +160,7 @@ IsChange w other group s c = IsTable w.plan s (hidden w.plan group) (growths w o
 -- the source of a wire that party p gives
 pub given_is : (p : ℕ) (from : Source) → given_by p from ≡ true → from ≡ Given p
 given_is p (Given q) e = ap (λ (n : ℕ). Given n) (eqb-true q p e)
-given_is p (Carried r c i) e = absurd (both_ways false refl e)
+given_is p (Earlier r c i) e = absurd (both_ways false refl e)
 
 -- numbers of the ring, one for each wire
 pub listed_fit : (plan : Plan) (s : ℕ) (f : ℕ → ℕ) → ((v : ℕ) → f v < 2 ^ plan.bits) → AreGrowths plan s (listed (session plan s).wires f)

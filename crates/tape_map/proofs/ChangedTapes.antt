@@ -16,7 +16,7 @@ use Rattle.job_plan.specs.Tallies.{tape_length}
 use Rattle.job_session.specs.Sessions.{Slot, output_wire, owners, source}
 use Rattle.job_session.specs.SoundSessions.{Inside}
 use Rattle.job_session.proofs.SessionSlots.{slots_are_numbered}
-use Rattle.job_plan.specs.Plans.{Plan, structure, holds, session, slot, slots, slot_number, words_in, words, place}
+use Rattle.job_plan.specs.Plans.{Plan, structure, is_holder, session, slot, slots, slot_number, words_in, words, place}
 use Rattle.job_plan.proofs.Slots.{at_its_number}
 use Rattle.share_world.specs.Worlds.{World, input_of, tape_word}
 use Rattle.share_world.specs.Laws.{IsWhole, AreTapes}
@@ -52,7 +52,7 @@ hidden_within plan group h =
     ]
 
 pub not_held : (plan : Plan) (group p : ℕ) → hidden plan group < length plan.groups → p < plan.parties → has_party group p ≡ true
-    → holds plan p (hidden plan group) ≡ false
+    → is_holder plan p (hidden plan group) ≡ false
 not_held plan group p l lp member =
     let mask = slice_index plan.groups (hidden plan group) in
     let inside : within plan.parties group mask ≡ true = passes_at_first (within plan.parties group) plan.groups 0 l in

@@ -16,12 +16,12 @@ use Rattle.party_set.specs.Parties.{has_party}
 use Rattle.job_session.specs.declared.side.Side.{Side}
 use Rattle.job_session.specs.declared.side.Side.TheVariants.{First, Second}
 use Rattle.job_session.specs.declared.source.Source.{Source}
-use Rattle.job_session.specs.declared.source.Source.TheVariants.{Given, Carried}
+use Rattle.job_session.specs.declared.source.Source.TheVariants.{Given, Earlier}
 use Rattle.job_session.specs.Sessions.{Slot, given_by, owners, source, gate, operand, is_direct}
 use Rattle.job_session.specs.Sessions.Slot.{Input, At_gate, Output, Mask, Mask_product, Masked, Kept}
 use Rattle.job_session.specs.SoundSessions.{Inside}
 use Rattle.job_session.proofs.SessionSlots.{slots_are_numbered, product_within}
-use Rattle.job_plan.specs.Plans.{Plan, scheme, session, slot, holds, least_holder, least_held, deals_in, words_in}
+use Rattle.job_plan.specs.Plans.{Plan, scheme, session, slot, is_holder, holder_of, least_held, deals_in, words_in}
 use Rattle.job_plan.proofs.PlanSchemes.{scheme_is, least_holds, least_within}
 use Rattle.job_plan.proofs.TapePlaces.{masks_have_words}
 use Rattle.share_world.specs.Worlds.{World, carried_wire, end_summands, run_of, source_summands, first_summands, first_values, summands_before, values_before, value_before, tape_word, mask, mask_product, dealt_value, deal_of, masked_summand}
@@ -100,24 +100,24 @@ deal_is w other group s p (Kept j) e = absurd (both_ways false refl e)
 
 -- in a mask the hidden word is that of the hidden summand
 hidden_of_mask : (plan : Plan) (group t i : ℕ) (side : Side) → i ≡ hidden plan group
-    → hidden_word plan group (least_holder plan i) (Mask t side) ≡ least_held plan (least_holder plan i) i
+    → hidden_word plan group (holder_of plan i) (Mask t side) ≡ least_held plan (holder_of plan i) i
 hidden_of_mask plan group t i side e =
-    let p = least_holder plan i in
+    let p = holder_of plan i in
     let g = hidden plan group in
-    ap (least_held plan p) (cond-true (nat_eq (least_holder plan g) p) g (length plan.groups) (eq-eqb (least_holder plan g) p (ap (least_holder plan) (sym e))) ∙ sym e)
+    ap (least_held plan p) (cond-true (nat_eq (holder_of plan g) p) g (length plan.groups) (eq-eqb (holder_of plan g) p (ap (holder_of plan) (sym e))) ∙ sym e)
 
 -- and no other's
 other_of_mask : (plan : Plan) (group s t i : ℕ) (side : Side) → i < length plan.groups → i ≢ hidden plan group
-    → least_held plan (least_holder plan i) i ≢ hidden_word plan group (least_holder plan i) (Mask t side)
+    → least_held plan (holder_of plan i) i ≢ hidden_word plan group (holder_of plan i) (Mask t side)
 other_of_mask plan group s t i side li ne same =
-    let p = least_holder plan i in
+    let p = holder_of plan i in
     let g = hidden plan group in
-    elim (cases_eq (least_holder plan g) p) [
+    elim (cases_eq (holder_of plan g) p) [
       | inl e ↦ (masks_have_words plan).apart i g (sym e) ne (same
-          ∙ ap (least_held plan p) (cond-true (nat_eq (least_holder plan g) p) g (length plan.groups) (eq-eqb (least_holder plan g) p e))
+          ∙ ap (least_held plan p) (cond-true (nat_eq (holder_of plan g) p) g (length plan.groups) (eq-eqb (holder_of plan g) p e))
           ∙ ap (λ r. least_held plan r g) (sym e))
       | inr apart ↦
-          let past = same ∙ ap (least_held plan p) (cond-false (nat_eq (least_holder plan g) p) g (length plan.groups) (ne_eqb (least_holder plan g) p apart)) in
+          let past = same ∙ ap (least_held plan p) (cond-false (nat_eq (holder_of plan g) p) g (length plan.groups) (ne_eqb (holder_of plan g) p apart)) in
           omega (arith, past, (masks_have_words plan).within s t i side li)
     ]
 
@@ -157,11 +157,11 @@ module _ (w : World) (other : List (List (List ℕ))) (group : ℕ) (h : CanMove
   second_is = is_world (second_world w other group) (second_whole w other group h.whole h.others)
 
   -- no member is the least holder of the hidden summand
-  stranger : has_party group (least_holder w.plan g) ≡ false
+  stranger : has_party group (holder_of w.plan g) ≡ false
   stranger =
-      let p = least_holder w.plan g in
+      let p = holder_of w.plan g in
       elim (cases_Bool (has_party group p)) [
-        | inl yes' ↦ absurd (both_ways (holds w.plan p g)
+        | inl yes' ↦ absurd (both_ways (is_holder w.plan p g)
             (not_held w.plan group p lg (least_within w.plan (is_plan w h.whole) g lg) yes') (least_holds w.plan (is_plan w h.whole) g lg))
         | inr no' ↦ no'
       ]
@@ -170,16 +170,16 @@ module _ (w : World) (other : List (List (List ℕ))) (group : ℕ) (h : CanMove
 
   -- a word of a mask that isn't the hidden summand's stays, and the hidden one's grows
   mask_word : (s t i : ℕ) (side : Side) → i < m
-      → moved_words w other group s (Mask t side) (least_holder w.plan i) (least_held w.plan (least_holder w.plan i) i)
+      → moved_words w other group s (Mask t side) (holder_of w.plan i) (least_held w.plan (holder_of w.plan i) i)
       ≡ moved_mask w other group s t side i
   mask_word s t i side li =
-      let p = least_holder w.plan i in
+      let p = holder_of w.plan i in
       let k = least_held w.plan p i in
       let old = tape_word w s (Mask t side) p in
       let d = growth w other group s p (Mask t side) in
       let more = raised q (hidden_word w.plan group p (Mask t side)) d old in
       elim (cases_eq i g) [
-        | inl e ↦ ap (λ f. f k) (cond-false (has_party group p) old more (subst (λ j. has_party group (least_holder w.plan j) ≡ false) (sym e) stranger))
+        | inl e ↦ ap (λ f. f k) (cond-false (has_party group p) old more (subst (λ j. has_party group (holder_of w.plan j) ≡ false) (sym e) stranger))
             ∙ raised_here q (hidden_word w.plan group p (Mask t side)) d old k (sym (hidden_of_mask w.plan group t i side e))
             ∙ sym (raised_here q g d (mask w s t side) i e)
         | inr ne ↦ elim (cases_Bool (has_party group p)) [
@@ -193,7 +193,7 @@ module _ (w : World) (other : List (List (List ℕ))) (group : ℕ) (h : CanMove
   pub mask_moves : (s t i : ℕ) (side : Side) → s < length w.plan.sessions → Inside (session w.plan s) (Mask t side) → i < m
       → mask second s t side i ≡ moved_mask w other group s t side i
   mask_moves s t i side ls inside li =
-      let p = least_holder w.plan i in
+      let p = holder_of w.plan i in
       word_moves w other group s (Mask t side) p (least_held w.plan p i) ls inside (least_within w.plan (is_plan w h.whole) i li)
       ((masks_have_words w.plan).within s t i side li)
       ∙ mask_word s t i side li
@@ -245,7 +245,7 @@ module _ (w : World) (other : List (List (List ℕ))) (group : ℕ) (h : CanMove
   source_alike : (s v i : ℕ) (from : Source) → Earlier s → s < length w.plan.sessions → v < length (owners (session w.plan s)) → source (session w.plan s) v ≡ from
       → i < m → i ≢ g → source_summands second (summands_before second s) s v from i ≡ source_summands w (summands_before w s) s v from i
   source_alike s v i (Given p) before ls lv from li ne = input_alike s v p i ls lv from li (inl ne)
-  source_alike s v i (Carried r c at) before ls lv from li ne =
+  source_alike s v i (Earlier r c at) before ls lv from li ne =
       let wire = carried_wire w.plan r c at in
       let less = h.whole.sound.earlier s v r c at from in
       ap (λ (f : ℕ → ℕ → ℕ). f wire i) (ended_summands second s r less) ∙ before r wire i less li ne

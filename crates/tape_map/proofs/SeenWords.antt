@@ -14,7 +14,7 @@ use Rattle.job_session.proofs.SessionSlots.{slots_are_numbered, slot_kinds}
 use Rattle.job_plan.specs.declared.key.Key.{Key}
 use Rattle.job_plan.specs.Messages.{messages, slot_messages}
 use Rattle.job_plan.specs.Numbers.{no_key}
-use Rattle.job_plan.specs.Plans.{session, holds, least_holder, slot, slots, slot_number, reads}
+use Rattle.job_plan.specs.Plans.{session, is_holder, holder_of, slot, slots, slot_number, reads}
 use Rattle.job_plan.proofs.DistinctMessages.{every_place}
 use Rattle.job_plan.proofs.PlanSchemes.{least_holds, least_within}
 use Rattle.share_world.specs.Locals.{key_at}
@@ -58,14 +58,14 @@ module _ (w : World) (other : List (List (List ℕ))) (group : ℕ) (h : CanMove
   abbrev Alike : Key → Type 0
   Alike key = touches group key ≡ true → seen_word key ≡ word w key
 
-  not_hidden : (q i : ℕ) → q < w.plan.parties → has_party group q ≡ true → holds w.plan q i ≡ true → i ≢ hidden w.plan group
+  not_hidden : (q i : ℕ) → q < w.plan.parties → has_party group q ≡ true → is_holder w.plan q i ≡ true → i ≢ hidden w.plan group
   not_hidden q i lq member has e =
-      both_ways (holds w.plan q (hidden w.plan group)) (not_held w.plan group q (hidden_within w.plan group h.tolerated) lq member)
-      (subst (λ z. holds w.plan q z ≡ true) e has)
+      both_ways (is_holder w.plan q (hidden w.plan group)) (not_held w.plan group q (hidden_within w.plan group h.tolerated) lq member)
+      (subst (λ z. is_holder w.plan q z ≡ true) e has)
 
-  holder_not_hidden : (i q : ℕ) → i < length w.plan.groups → least_holder w.plan i ≡ q → has_party group q ≡ true → i ≢ hidden w.plan group
+  holder_not_hidden : (i q : ℕ) → i < length w.plan.groups → holder_of w.plan i ≡ q → has_party group q ≡ true → i ≢ hidden w.plan group
   holder_not_hidden i q li holder member =
-      let p = least_holder w.plan i in
+      let p = holder_of w.plan i in
       not_hidden p i (least_within w.plan (is_plan w h.whole) i li) (subst (λ r. has_party group r ≡ true) (sym holder) member)
       (least_holds w.plan (is_plan w h.whole) i li)
 

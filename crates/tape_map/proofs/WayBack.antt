@@ -16,7 +16,7 @@ use Rattle.job_session.specs.Sessions.{Slot, gate, operand}
 use Rattle.job_session.specs.Sessions.Slot.{Input, At_gate, Output, Mask, Mask_product, Masked, Kept}
 use Rattle.job_session.specs.SoundSessions.{Inside}
 use Rattle.job_session.proofs.SessionSlots.{slots_are_numbered}
-use Rattle.job_plan.specs.Plans.{scheme, session, slot, slots, least_holder, least_held, words_in, place}
+use Rattle.job_plan.specs.Plans.{scheme, session, slot, slots, holder_of, least_held, words_in, place}
 use Rattle.job_plan.proofs.Slots.{at_its_number}
 use Rattle.share_world.specs.Worlds.{World, tape_word, mask, value_before, dealt_value}
 use Rattle.share_world.specs.Laws.{IsWhole}
@@ -82,7 +82,7 @@ module _ (w : World) (other : List (List (List ℕ))) (group : ℕ) (h : CanMove
       let old = value_before w s t v in
       let new = value_before (with_inputs w other) s t v in
       let g = hidden w.plan group in
-      let p = least_holder w.plan i in
+      let p = holder_of w.plan i in
       raised_eq q g (delta second w.inputs s t v) (difference q old new) (mask second s t side) (raised q g (difference q new old) (mask w s t side)) i (delta_back w other group s t v)
       (mask_moves w other group h s t i side ls inside li)
       ∙ raised_back q g old new (mask w s t side) i (pow_pos w.plan.bits) (small_words w h.whole s p (Mask t side) (least_held w.plan p i))

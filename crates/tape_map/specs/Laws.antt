@@ -11,7 +11,7 @@ use Rattle.job_plan.specs.Messages.{messages}
 use Rattle.job_plan.specs.Numbers.{message}
 use Rattle.job_session.specs.Sessions.{owners, readers, gate, is_prepared, output_wire, source}
 use Rattle.job_session.specs.declared.side.Side.{Side}
-use Rattle.job_plan.specs.Plans.{Plan, structure, holds, session, reads, slot, slots, words_in}
+use Rattle.job_plan.specs.Plans.{Plan, structure, is_holder, session, reads, slot, slots, words_in}
 use Rattle.share_world.specs.Worlds.{World, input_of, tape_word, mask, masked_summand, dealt_value, run_of, plain, word, touches, view}
 use Rattle.share_world.specs.Laws.{IsWhole, AreTapes}
 use Rattle.tape_map.specs.TapeMaps.{member_gives, hidden_word, with_inputs, with_tapes, tape_of, delta, moved_summands, moved_mask, moved_value, moved_words, tape_map, changed_tapes, second_world}
@@ -38,9 +38,9 @@ pub record CanHide (w : World) (other : InputLists) (group : ℕ) : Type 0 where
 -- g is the first summand that no member of the group holds
 pub record IsFirstLacked (plan : Plan) (group g : ℕ) : Type 0 where
   pub there : g < length plan.groups
-  pub lacked : (p : ℕ) → p < plan.parties → has_party group p ≡ true → holds plan p g ≡ false
+  pub lacked : (p : ℕ) → p < plan.parties → has_party group p ≡ true → is_holder plan p g ≡ false
   pub first : (i : ℕ) → i < g
-      → (p : ℕ) × (p < plan.parties) × (has_party group p ≡ true) × (holds plan p i ≡ true)
+      → (p : ℕ) × (p < plan.parties) × (has_party group p ≡ true) × (is_holder plan p i ≡ true)
 
 -- ---- what the group sees
 

@@ -7,12 +7,12 @@ use Rattle.mpc_ring.specs.Differences.{difference}
 use Rattle.secret_sharing.specs.Schemes.{own_product, summands}
 use Rattle.party_set.specs.Parties.{has_party, within}
 use Rattle.job_session.specs.declared.source.Source.{Source}
-use Rattle.job_session.specs.declared.source.Source.TheVariants.{Given, Carried}
+use Rattle.job_session.specs.declared.source.Source.TheVariants.{Given, Earlier}
 use Rattle.job_session.specs.Sessions.{Slot, gate, operand}
 use Rattle.job_session.specs.Sessions.Slot.{Input, At_gate, Mask, Mask_product}
 use Rattle.job_session.specs.declared.side.Side.{Side}
 use Rattle.job_session.specs.declared.side.Side.TheVariants.{First, Second}
-use Rattle.job_plan.specs.Plans.{Plan, scheme, session, slot, slots, words_in, least_holder, least_held}
+use Rattle.job_plan.specs.Plans.{Plan, scheme, session, slot, slots, words_in, holder_of, least_held}
 use Rattle.share_world.specs.Worlds.{World, input_of, tape_word, value_before, mask, dealt_value, run_of}
 use Rattle.job_plan.specs.InputWords.{InputLists}
 
@@ -39,7 +39,7 @@ delta w other s t v =
 -- a member of the group gives the wire; nobody gives one that is carried
 abbrev pub member_gives : ℕ → Source → Bool
 member_gives group (Given p) = has_party group p
-member_gives group (Carried r c i) = false
+member_gives group (Earlier r c i) = false
 
 -- ---- what is to change
 
@@ -80,7 +80,7 @@ moved_value w other group s p _ = 0
 abbrev pub hidden_word : Plan → ℕ → ℕ → Slot → ℕ
 hidden_word plan group p (Mask t side) =
     let g = hidden plan group in
-    least_held plan p (if nat_eq (least_holder plan g) p then g else length plan.groups)
+    least_held plan p (if nat_eq (holder_of plan g) p then g else length plan.groups)
 hidden_word plan group p _ = hidden plan group
 
 -- by how much that word grows: in a mask as the masked wire's value does, in a deal as the value that p deals

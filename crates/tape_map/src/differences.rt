@@ -23,7 +23,7 @@ pub(crate) fn member_gives(group: Group, source: Source) -> bool
 {
     match source {
         Source::Given(party) => group.has(party),
-        Source::Carried { .. } => false,
+        Source::Earlier { .. } => false,
     }
 }
 

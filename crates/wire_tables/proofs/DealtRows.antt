@@ -14,7 +14,7 @@ use Rattle.secret_sharing.specs.Schemes.{Scheme, dealt}
 use Rattle.secret_sharing.specs.Prepared.{masked, sum_of}
 use Rattle.secret_sharing.proofs.SummandSums.{dealt_word, dealt_last}
 use Rattle.job_plan.specs.InputWords.{session_words}
-use Rattle.job_plan.specs.Plans.{Plan, scheme, least_holder, least_held}
+use Rattle.job_plan.specs.Plans.{Plan, scheme, holder_of, least_held}
 use Rattle.job_plan.proofs.TapePlaces.{held_within}
 use Rattle.wire_tables.specs.Places.{HasMaskWords, mask_at}
 use Rattle.wire_tables.specs.WireTables.{world_of}
@@ -71,7 +71,7 @@ total_passed n has f e =
 
 -- a least holder has its next word of a mask
 pub mask_word : (world : WorldData) (places : List ℕ) (i p held : ℕ) (tape : Vec ℕ) → HasMaskWords (world_of world) places → i < length world.plan.now.groups
-    → p ≡ least_holder world.plan.now i → held ≡ least_held world.plan.now p i → tape ≡ slice_index_or world.tapes.now p tape
+    → p ≡ holder_of world.plan.now i → held ≡ least_held world.plan.now p i → tape ≡ slice_index_or world.tapes.now p tape
     → (slice_index places p + held < length tape.items) × (slice_index tape.items (slice_index places p + held) ≡ mask_at (world_of world) places i)
 mask_word world places i p held tape h li holder held_is is =
     let plan = world.plan.now in

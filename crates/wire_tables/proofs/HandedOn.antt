@@ -3,7 +3,7 @@ use Rattle.std.proofs.Common.{◌≡◌, ℕ, ◌+◌, ◌<◌, true, false, Lis
 use Rattle.std.specs.Prelude.{slice_index_or}
 use Rattle.std.proofs.lemmas.Bool.{cases_eq, both_ways, eqb-true, ne_eqb}
 use Rattle.job_session.specs.declared.source.Source.{Source}
-use Rattle.job_session.specs.declared.source.Source.TheVariants.{Given, Carried}
+use Rattle.job_session.specs.declared.source.Source.TheVariants.{Given, Earlier}
 use Rattle.job_session.specs.declared.values.KeptWire.{KeptWire}
 use Rattle.job_session.specs.Sessions.{Session, carries, kept_wire, no_kept, source}
 use Rattle.job_session.specs.Carries.{IsKeptAt, kept_place}
@@ -35,7 +35,7 @@ module _ (plan : Plan) (keeps : KeepsCarried plan) (s : ℕ) where
     where
       later : (from : Source) → source (session plan (kept_at j).session) (kept_at j).wire ≡ from → carries s from ≡ true → s < (kept_at j).session
       later (Given p) is e = absurd (both_ways false refl e)
-      later (Carried r c i) is e = subst (λ q. q < (kept_at j).session) (eqb-true r s e) (earlier (kept_at j).session (kept_at j).wire r c i is)
+      later (Earlier r c i) is e = subst (λ q. q < (kept_at j).session) (eqb-true r s e) (earlier (kept_at j).session (kept_at j).wire r c i is)
 
   module _ {A : Type 0} (item : ℕ → A) (old : ℕ → ℕ → A) where
     -- the items of the first n kept wires are handed on
@@ -75,7 +75,7 @@ module _ (plan : Plan) (keeps : KeepsCarried plan) (s : ℕ) where
       others = h.others;
     }
       where
-        is_there : (u v c i : ℕ) → source (session plan u) v ≡ Carried s c i
+        is_there : (u v c i : ℕ) → source (session plan u) v ≡ Earlier s c i
             → kept_at (kept_place plan.sessions u v) ≡ record { session = u; wire = v; output = (kept_at (kept_place plan.sessions u v)).output }
         is_there u v c i from =
             let there = (kept_have_places plan.sessions).there u v s c i (carrier_there plan u v s c i from) from in
@@ -85,7 +85,7 @@ module _ (plan : Plan) (keeps : KeepsCarried plan) (s : ℕ) where
 -- ---- in a plan within the limits
 
 -- the wire that is carried is one of its session's
-pub carried_named : (plan : Plan) → IsSound plan → (u v r c i : ℕ) → source (session plan u) v ≡ Carried r c i → carried_wire plan r c i < (session plan r).wires
+pub carried_named : (plan : Plan) → IsSound plan → (u v r c i : ℕ) → source (session plan u) v ≡ Earlier r c i → carried_wire plan r c i < (session plan r).wires
 carried_named plan sound u v r c i from =
     let x : Session = session plan r in
     let lr : r < length plan.sessions = omega (arith, sound.earlier u v r c i from, carrier_there plan u v r c i from) in
@@ -104,7 +104,7 @@ carried_next w s rows old new sound is h many handed = record {
   sessions = many;
   are = λ u v r c i from l. elim (cases_eq r s) [
     | inl e ↦
-        let from' : source (session w.plan u) v ≡ Carried s c i = from ∙ ap (λ (q : ℕ). Carried q c i) e in
+        let from' : source (session w.plan u) v ≡ Earlier s c i = from ∙ ap (λ (q : ℕ). Earlier q c i) e in
         let wire = carried_wire w.plan s c i in
         handed.carried u v c i from' ∙ ap (λ rs. slice_index_or rs wire []) is ∙ wire_last w s wire (carried_named w.plan sound u v s c i from')
         ∙ ap (λ (q : ℕ). summand_row w q (carried_wire w.plan q c i)) (sym e)
@@ -118,7 +118,7 @@ carried_same w s rows sound none h = record {
   sessions = h.sessions;
   are = λ u v r c i from l. elim (cases_eq r s) [
     | inl e ↦
-        let from' : source (session w.plan u) v ≡ Carried s c i = from ∙ ap (λ (q : ℕ). Carried q c i) e in
+        let from' : source (session w.plan u) v ≡ Earlier s c i = from ∙ ap (λ (q : ℕ). Earlier q c i) e in
         absurd (omega (arith, (kept_there w.plan sound.kept u v s c i from').0, none))
     | inr ne ↦ h.are u v r c i from (omega (arith, l, ne))
   ];

@@ -18,7 +18,7 @@ use Rattle.secret_sharing.specs.Schemes.{has_pair, local, product_summand}
 use Rattle.secret_sharing.specs.Prepared.{masked, sum_of, prepared_summand}
 use Rattle.job_session.specs.declared.side.Side.{Side}
 use Rattle.job_session.specs.declared.side.Side.TheVariants.{First, Second}
-use Rattle.job_session.specs.declared.source.Source.TheVariants.{Given, Carried}
+use Rattle.job_session.specs.declared.source.Source.TheVariants.{Given, Earlier}
 use Rattle.job_session.specs.Sessions.{Session, owners, source, gate, is_prepared, is_direct, operand, mask_wire, product_wire, row_names}
 use Rattle.job_session.specs.Sessions.Slot.{Input, At_gate, Mask, Mask_product, Masked}
 use Rattle.job_session.specs.SoundSessions.{IsWired}
@@ -77,7 +77,7 @@ module _ (w : World) (whole : IsWhole w) (s k : ℕ) (ls : s < length w.plan.ses
   input_named v z = let lv = inside_here w s k lk (Input v) z in (lv, omega (arith, lv, wired.input_wires))
 
   -- what is carried of an earlier session
-  pub carried_made : (v r c at : ℕ) (row : List ℕ) → slot w.plan s k ≡ Input v → source x v ≡ Carried r c at → row ≡ summand_row w r (carried_wire w.plan r c at) → SetsRow w s k v row
+  pub carried_made : (v r c at : ℕ) (row : List ℕ) → slot w.plan s k ≡ Input v → source x v ≡ Earlier r c at → row ≡ summand_row w r (carried_wire w.plan r c at) → SetsRow w s k v row
   carried_made v r c at row z from is = let l = input_named v z in record {
     sets = ap (sets_in x) z;
     named = omega (arith, l.1, wires_named x);

@@ -8,7 +8,7 @@ use Rattle.job_session.specs.Sessions.{Slot}
 use Rattle.job_session.specs.Sessions.Slot.{Mask}
 use Rattle.job_session.specs.SoundSessions.{Inside}
 use Rattle.job_session.proofs.SessionSlots.{slots_are_numbered}
-use Rattle.job_plan.specs.Plans.{scheme, session, slot, slots, slot_number, place, least_holder, least_held}
+use Rattle.job_plan.specs.Plans.{scheme, session, slot, slots, slot_number, place, holder_of, least_held}
 use Rattle.job_plan.proofs.PlanSchemes.{least_within}
 use Rattle.job_plan.proofs.Slots.{at_its_number}
 use Rattle.share_world.specs.Laws.{IsWhole}
@@ -46,6 +46,6 @@ module _ (w : World) (s k : ℕ) (lk : k < slots w.plan s) (z : Slot) (is : slot
 pub drawn_here : (w : World) → IsWhole w → (s k : ℕ) → k < slots w.plan s → (t : ℕ) (side : Side) → slot w.plan s k ≡ Mask t side → (places : List ℕ) → ArePlaces w.plan s k places
     → (i : ℕ) → i < length w.plan.groups → mask_at w places i ≡ mask w s t side i
 drawn_here w whole s k lk t side is places h i li =
-    let p = least_holder w.plan i in
+    let p = holder_of w.plan i in
     ap (λ n. slice_index (slice_index_or w.tapes p []) (n + least_held w.plan p i))
     (h.are p (least_within w.plan (is_plan w whole) i li) ∙ ap (place w.plan p s) (sym (number_here w s k lk (Mask t side) is)))

@@ -14,7 +14,7 @@ use Rattle.job_session.specs.declared.side.Side.TheVariants.{First, Second}
 use Rattle.job_session.specs.Sessions.{Session, is_prepared, mask_wire, product_wire, row_names}
 use Rattle.job_session.specs.Sessions.Slot.{Mask}
 use Rattle.job_session.proofs.RowNames.{direct_names}
-use Rattle.job_plan.specs.Plans.{Plan, session, least_holder, least_held}
+use Rattle.job_plan.specs.Plans.{Plan, session, holder_of, least_held}
 use Rattle.share_world.specs.Worlds.{World, run_of, mask, mask_product}
 use Rattle.share_world.specs.Laws.{IsWhole}
 use Rattle.share_world.proofs.SmallWords.{positive, small_run, small_words}
@@ -136,7 +136,7 @@ module _ (w : World) (whole : IsWhole w) (s : ℕ) where
   wire_whole v = row_of (summands (run_of w s) (length (session w.plan s).gates) v) (small_run w whole s (length (session w.plan s).gates) v)
 
   pub mask_whole : (t : ℕ) (side : Side) → IsRow w.plan (mask_row w s t side)
-  mask_whole t side = row_of (mask w s t side) (λ i. small_words w whole s (least_holder w.plan i) (Mask t side) (least_held w.plan (least_holder w.plan i) i))
+  mask_whole t side = row_of (mask w s t side) (λ i. small_words w whole s (holder_of w.plan i) (Mask t side) (least_held w.plan (holder_of w.plan i) i))
 
   pub product_whole : (t : ℕ) → IsRow w.plan (product_row w s t)
   product_whole t = row_of (mask_product w s t) (λ i. mod-lt _ (positive w whole))

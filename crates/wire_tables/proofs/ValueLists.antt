@@ -10,7 +10,7 @@ use Rattle.list_laws.proofs.JoinedLists.{length-listed, listed_at, listed_eq}
 use Rattle.circuit_model.specs.Circuits.{values}
 use Rattle.circuit_model.proofs.SetWires.{funext}
 use Rattle.job_session.specs.declared.source.Source.{Source}
-use Rattle.job_session.specs.declared.source.Source.TheVariants.{Given, Carried}
+use Rattle.job_session.specs.declared.source.Source.TheVariants.{Given, Earlier}
 use Rattle.job_session.specs.Sessions.{Session, carries, gate, owners, source}
 use Rattle.job_plan.specs.Plans.{session}
 use Rattle.job_plan.specs.Sound.{IsSound}
@@ -53,7 +53,7 @@ module _ (w : World) where
     where
       given : (u v : ℕ) (from : Source) → source (session w.plan u) v ≡ from → source_input w u v from ≡ source_value w (values_before w 0) u v from
       given u v (Given p) is = ap (source_input w u v) (sym is)
-      given u v (Carried r c i) is = refl
+      given u v (Earlier r c i) is = refl
 
   -- the gates of session s make the values of all its wires
   pub gates_run : (s : ℕ) (lists : List (List ℕ)) (new : List ℕ) → s < length w.plan.sessions → ListsSoFar w s s lists
@@ -102,7 +102,7 @@ module _ (w : World) where
         where
           not_later : (u v : ℕ) (from : Source) → source (session w.plan u) v ≡ from → u < s + 1 → carries s from ≡ false
           not_later u v (Given p) is lu = refl
-          not_later u v (Carried r c i) is lu = ne_eqb r s (λ e. omega (arith, e, lu, sound.earlier u v r c i is))
+          not_later u v (Earlier r c i) is lu = ne_eqb r s (λ e. omega (arith, e, lu, sound.earlier u v r c i is))
 
       -- what stood there before
       before : (u v : ℕ) (from : Source) → source (session w.plan u) v ≡ from → s + 1 ≤ u → u < length w.plan.sessions → v < length (owners (session w.plan u))
@@ -117,9 +117,9 @@ module _ (w : World) where
       carried : (u v : ℕ) (from : Source) → source (session w.plan u) v ≡ from → s + 1 ≤ u → u < length w.plan.sessions → v < length (owners (session w.plan u))
           → value_at new u v ≡ source_value w (values_before w (s + 1)) u v from
       carried u v (Given p) is le lp lv = handed.others u v (ap (carries s) is) ∙ before u v (Given p) is le lp lv
-      carried u v (Carried r c i) is le lp lv = elim (cases_eq r s) [
+      carried u v (Earlier r c i) is le lp lv = elim (cases_eq r s) [
         | inl e ↦
-            let from : source (session w.plan u) v ≡ Carried s c i = is ∙ ap (λ (q : ℕ). Carried q c i) e in
+            let from : source (session w.plan u) v ≡ Earlier s c i = is ∙ ap (λ (q : ℕ). Earlier q c i) e in
             let wire = carried_wire w.plan s c i in
             handed.carried u v c i from
             ∙ ap (λ xs. slice_index xs wire) (h.made s (omega arith) l)
@@ -127,7 +127,7 @@ module _ (w : World) where
             ∙ ap (λ (f : ℕ → ℕ). f wire) (sym (ended_values w (s + 1) s (omega arith)))
             ∙ ap (λ (q : ℕ). values_before w (s + 1) q (carried_wire w.plan q c i)) (sym e)
         | inr ne ↦
-            handed.others u v (ap (carries s) is ∙ ne_eqb r s ne) ∙ before u v (Carried r c i) is le lp lv
+            handed.others u v (ap (carries s) is ∙ ne_eqb r s ne) ∙ before u v (Earlier r c i) is le lp lv
             ∙ ap (λ (f : ℕ → ℕ). f (carried_wire w.plan r c i)) (sym (cond-false (nat_eq r s) (plain w s) (values_before w s r) (ne_eqb r s ne)))
             ∙ ap (λ n. values_before w n r (carried_wire w.plan r c i)) (sym one)
       ]
@@ -151,7 +151,7 @@ module _ (w : World) where
 
     small_source : (n u v : ℕ) (from : Source) → source (session w.plan u) v ≡ from → source_value w (values_before w n) u v from < 2 ^ w.plan.bits
     small_source n u v (Given p) is = subst (λ (f : Source). source_input w u v f < 2 ^ w.plan.bits) (sym is) (inputs.below p u _)
-    small_source n u v (Carried r c i) is = small_before n r (carried_wire w.plan r c i)
+    small_source n u v (Earlier r c i) is = small_before n r (carried_wire w.plan r c i)
 
     pub small_list : (n u : ℕ) (list : List ℕ) → list ≡ first_list w n u → All (λ word. word < 2 ^ w.plan.bits) list
     small_list n u list is k d l =

@@ -12,7 +12,7 @@ use Rattle.circuit_model.specs.declared.gate.Gate.{Gate}
 use Rattle.circuit_model.specs.Circuits.{operate, set_at, values}
 use Rattle.circuit_model.proofs.SetAt.{set_here, set_there}
 use Rattle.job_session.specs.declared.source.Source.{Source}
-use Rattle.job_session.specs.declared.source.Source.TheVariants.{Given, Carried}
+use Rattle.job_session.specs.declared.source.Source.TheVariants.{Given, Earlier}
 use Rattle.job_session.specs.Sessions.{given_by}
 
 zeros : (m k : ℕ) → slice_index (replicate m 0) k ≡ 0
@@ -72,7 +72,7 @@ carried_next f v p none = (let more = total_more v (λ u. gives_one p (f u)) in 
   where
     of : (from : Source) → f v ≡ from → gives_one p (f v) ≡ 0
     of (Given q) is = absurd (none q is)
-    of (Carried r c i) is = ap (gives_one p) is
+    of (Earlier r c i) is = ap (gives_one p) is
 
 -- a party's next word is there
 pub given_within : (f : ℕ → Source) (v q n : ℕ) → v < n → f v ≡ Given q → total v (λ u. gives_one q (f u)) < total n (λ u. gives_one q (f u))

@@ -3,7 +3,7 @@ use Rattle.std.specs.Prelude.{◌≡◌, ℕ, ◌<◌, if◌then◌else◌, List
 use Rattle.std.specs.Global.{Vec}
 use Rattle.list_laws.specs.Lists.{joined, listed}
 use Rattle.job_session.specs.Sessions.{owners, source, is_prepared}
-use Rattle.job_session.specs.declared.source.Source.TheVariants.{Carried}
+use Rattle.job_session.specs.declared.source.Source.TheVariants.{Earlier}
 use Rattle.job_session.specs.declared.side.Side.{Side}
 use Rattle.job_session.specs.declared.side.Side.TheVariants.{First, Second}
 use Rattle.job_plan.specs.Plans.{Plan, session}
@@ -69,5 +69,5 @@ row_at rows s v = slice_index_or (slice_index_or rows s []) v []
 -- by session and input wire, the summands of each wire that is carried from one of the first n sessions
 pub record AreCarried (w : World) (n : ℕ) (rows : List (List (List ℕ))) : Type 0 where
   pub sessions : length rows ≡ length w.plan.sessions
-  pub are : (s v r c i : ℕ) → source (session w.plan s) v ≡ Carried r c i → r < n
+  pub are : (s v r c i : ℕ) → source (session w.plan s) v ≡ Earlier r c i → r < n
       → row_at rows s v ≡ summand_row w r (carried_wire w.plan r c i)

@@ -172,7 +172,7 @@ fn input_row(
         Source::Given(party) => {
             deal_into(world, before.places, party, before.given[v as usize], row)
         }
-        Source::Carried { .. } => copy_into(before.carried.row(before.session, v), row),
+        Source::Earlier { .. } => copy_into(before.carried.row(before.session, v), row),
     }
 }
 

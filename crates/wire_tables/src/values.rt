@@ -32,7 +32,7 @@ pub fn input_list(
     for v in 0..part.input_wires() as u32 {
         let word = match part.source(v) {
             Source::Given(party) => next_input(inputs, s, party, &mut given),
-            Source::Carried { .. } => 0,
+            Source::Earlier { .. } => 0,
         };
         list.push(word)?;
     }

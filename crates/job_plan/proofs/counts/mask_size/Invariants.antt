@@ -1,11 +1,11 @@
 use Rattle.std.proofs.Common.{◌≡◌, ℕ, ◌*◌, ◌≤◌, length}
 use Rattle.list_laws.specs.Lists.{joined}
-use Rattle.job_plan.specs.Plans.{least_holder}
+use Rattle.job_plan.specs.Plans.{holder_of}
 use Rattle.job_plan.specs.Messages.{deal_message}
 use Rattle.job_plan.proofs.counts.mask_size.Given as goal
 
 abbrev pub invariant-loop-i : goal.invariant-loop-i
 invariant-loop-i l = record {
-  is : (s k : ℕ) → l.count ≡ length (joined l.i (λ i. joined l.outline.parties (deal_message l.outline s k (least_holder l.outline i) i)));
+  is : (s k : ℕ) → l.count ≡ length (joined l.i (λ i. joined l.outline.parties (deal_message l.outline s k (holder_of l.outline i) i)));
   few : l.count ≤ 12 * l.i;
 }

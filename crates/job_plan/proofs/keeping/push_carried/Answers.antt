@@ -6,7 +6,7 @@ use Rattle.std.proofs.lemmas.List.{get_or_past}
 use mathlib.Core.Logic.{inl, inr}
 use Rattle.list_laws.specs.Lists.{joined}
 use Rattle.list_laws.proofs.JoinedLists.{joined_step, joined_step_none, length-listed, listed_at}
-use Rattle.job_session.specs.declared.source.Source.TheVariants.{Carried}
+use Rattle.job_session.specs.declared.source.Source.TheVariants.{Earlier}
 use Rattle.job_session.specs.Sessions.{Session, carries, first_output, no_session, readers, session_at, source}
 use Rattle.job_session.specs.Carries.{kept_for}
 use Rattle.job_session.specs.declared.values.KeptWire.{KeptWire}
@@ -14,10 +14,10 @@ use Rattle.job_session.specs.SoundSessions.{IsWired}
 use Rattle.job_plan.specs.Keeping.{AllFit, first_outputs}
 use Rattle.job_plan.proofs.KeptSessions.{kept_here, kept_not, there, value_of, IsValueOf}
 use Rattle.job_plan.proofs.keeping.push_carried.Goals as goal
-use Rattle.job_plan.proofs.keeping.push_carried.Goals.{in-Carried+in_ok-push-in-Carried, in-Carried+else-session-r, in-Given}
+use Rattle.job_plan.proofs.keeping.push_carried.Goals.{in-Earlier+in_ok-push-in-Earlier, in-Earlier+else-session-r, in-Given}
 
 -- the wire that is carried, where it is from session r
-carried : (sessions : List Session) → AllFit sessions → (s v q c i r : ℕ) → source (session_at sessions s) v ≡ Carried q c i → q ≡ r → IsValueOf (session_at sessions r) c i
+carried : (sessions : List Session) → AllFit sessions → (s v q c i r : ℕ) → source (session_at sessions s) v ≡ Earlier q c i → q ≡ r → IsValueOf (session_at sessions r) c i
 carried sessions fit s v q c i r e same = subst (λ q. IsValueOf (session_at sessions q) c i) same (value_of sessions fit s v q c i e)
 
 -- the wire that it carries, behind the first of its value
@@ -35,8 +35,8 @@ bounds-firsts-value c =
     let sessions = c.args.parts.now in
     let x = session_at sessions c.args.r in
     let part = there sessions c.args.s c.index-parts-s.result c.requires.session c.index-parts-s.is in
-    let from = ap (λ y. source y c.loop-wire.wire) (sym part) ∙ sym c.in-Carried.ensures in
-    let of = carried sessions c.requires.fit c.args.s c.loop-wire.wire c.in-Carried.session c.in-Carried.value c.in-Carried.place c.args.r from c.if-session-r.true in
+    let from = ap (λ y. source y c.loop-wire.wire) (sym part) ∙ sym c.in-Earlier.ensures in
+    let of = carried sessions c.requires.fit c.args.s c.loop-wire.wire c.in-Earlier.session c.in-Earlier.value c.in-Earlier.place c.args.r from c.if-session-r.true in
     omega (arith, of.value, ap length c.requires.firsts, length-listed (length x.outputs) (first_output x))
 
 pub overflow_add-firsts : goal.overflow_add-firsts
@@ -44,10 +44,10 @@ overflow_add-firsts c =
     let sessions = c.args.parts.now in
     let x = session_at sessions c.args.r in
     let part = there sessions c.args.s c.index-parts-s.result c.requires.session c.index-parts-s.is in
-    let from = ap (λ y. source y c.loop-wire.wire) (sym part) ∙ sym c.in-Carried.ensures in
-    let of = carried sessions c.requires.fit c.args.s c.loop-wire.wire c.in-Carried.session c.in-Carried.value c.in-Carried.place c.args.r from c.if-session-r.true in
+    let from = ap (λ y. source y c.loop-wire.wire) (sym part) ∙ sym c.in-Earlier.ensures in
+    let of = carried sessions c.requires.fit c.args.s c.loop-wire.wire c.in-Earlier.session c.in-Earlier.value c.in-Earlier.place c.args.r from c.if-session-r.true in
     let few : length (readers x) ≤ 131072 = few_readers sessions c.args.r c.requires.wired in
-    omega (arith, of.wire, few, firsts_at x c.args.firsts.now c.in-Carried.value c.requires.firsts of.value)
+    omega (arith, of.wire, few, firsts_at x c.args.firsts.now c.in-Earlier.value c.requires.firsts of.value)
 
 pub loop-wire-preserved : goal.loop-wire-preserved
 loop-wire-preserved c =
@@ -61,14 +61,14 @@ loop-wire-preserved c =
     let unless : carries c.args.r (source (session_at sessions s) v) ≡ false → c.loop-wire.kept.items ≡ c.args.kept.now.items ++ joined (v + 1) (kept_for sessions c.args.r s) =
     λ e. joined_step_none v (kept_for sessions c.args.r s) c.args.kept.now.items c.loop-wire.kept.items c.loop-wire.invariant (kept_not sessions c.args.r s v e) in
     elim c.match-source.branch [
-      | in-Carried+in_ok-push-in-Carried w ↦
-          let from = given ∙ sym w.in-Carried.ensures in
-          let q = w.in-Carried.session in
-          let of = carried sessions c.requires.fit s v q w.in-Carried.value w.in-Carried.place c.args.r from w.if-session-r.true in
-          let first = firsts_at x c.args.firsts.now w.in-Carried.value c.requires.firsts of.value in
-          ap items w.kept-is ∙ w.in_ok-push-in-Carried.ensures.items
+      | in-Earlier+in_ok-push-in-Earlier w ↦
+          let from = given ∙ sym w.in-Earlier.ensures in
+          let q = w.in-Earlier.session in
+          let of = carried sessions c.requires.fit s v q w.in-Earlier.value w.in-Earlier.place c.args.r from w.if-session-r.true in
+          let first = firsts_at x c.args.firsts.now w.in-Earlier.value c.requires.firsts of.value in
+          ap items w.kept-is ∙ w.in_ok-push-in-Earlier.ensures.items
           ∙ joined_step v (kept_for sessions c.args.r s) c.args.kept.now.items c.loop-wire.kept.items _ c.loop-wire.invariant
-          (kept_here sessions c.args.r s v q w.in-Carried.value w.in-Carried.place _ from w.if-session-r.true first)
-      | in-Carried+else-session-r w ↦ ap items w.kept-is ∙ unless (ap (carries c.args.r) (given ∙ sym w.in-Carried.ensures) ∙ ne_eqb w.in-Carried.session c.args.r w.if-session-r.false)
+          (kept_here sessions c.args.r s v q w.in-Earlier.value w.in-Earlier.place _ from w.if-session-r.true first)
+      | in-Earlier+else-session-r w ↦ ap items w.kept-is ∙ unless (ap (carries c.args.r) (given ∙ sym w.in-Earlier.ensures) ∙ ne_eqb w.in-Earlier.session c.args.r w.if-session-r.false)
       | in-Given w ↦ ap items w.kept-is ∙ unless (ap (carries c.args.r) (given ∙ sym w.in-Given.ensures))
     ]

@@ -1,8 +1,8 @@
 use Rattle.std.proofs.Common.{◌≡◌}
 use Rattle.list_laws.specs.Lists.{joined}
-use Rattle.job_plan.specs.Plans.{least_holder}
+use Rattle.job_plan.specs.Plans.{holder_of}
 use Rattle.job_plan.specs.Patterns.{deal_transfer}
 use Rattle.job_plan.proofs.pattern_transfers.handed_out_transfers.Given as goal
 
 abbrev pub invariant-loop-share : goal.invariant-loop-share
-invariant-loop-share l = l.transfers ≡ joined l.share (λ i. joined l.outline.parties (deal_transfer l.outline (least_holder l.outline i) i))
+invariant-loop-share l = l.transfers ≡ joined l.share (λ i. joined l.outline.parties (deal_transfer l.outline (holder_of l.outline i) i))

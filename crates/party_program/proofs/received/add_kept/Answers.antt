@@ -2,7 +2,7 @@ use Rattle.std.proofs.Common.{◌≡◌, ◌≢◌, ℕ, ◌+◌, ◌<◌, true,
 use Rattle.std.specs.Prelude.{Option, Some, slice_index_or, if◌then◌else◌}
 use Rattle.indexmap.specs.IndexMap.{get}
 use Rattle.std.proofs.lemmas.Bool.{cases_eq, cases_lt, cond-true, cond-false, eq-eqb, eqb-true, ne_eqb}
-use Rattle.job_session.specs.declared.source.Source.TheVariants.{Carried}
+use Rattle.job_session.specs.declared.source.Source.TheVariants.{Earlier}
 use Rattle.job_session.specs.declared.values.KeptWire.{KeptWire}
 use Rattle.job_session.specs.Sessions.{Session, carries, no_kept, owners, readers, session_at, source}
 use Rattle.job_session.specs.Carries.{IsKeptAt, kept_from, kept_place}
@@ -39,7 +39,7 @@ module _ (plan : Plan) (is : IsPlan plan) (r s j : ℕ) (part : Session) (items 
   at = subst (IsKeptAt plan.sessions r j) (sym (ap (λ list. slice_index_or list j no_kept) (same ∙ is.kept r))) ((kept_have_places plan.sessions).each r j (omega (arith, within, ap length (is.kept r))))
 
   -- it is that of input wire v, where that wire's place is j
-  this_wire : (v c i : ℕ) → source (session plan s) v ≡ Carried r c i → kept_place plan.sessions s v ≡ j → (kept.session ≡ s) × (kept.wire ≡ v)
+  this_wire : (v c i : ℕ) → source (session plan s) v ≡ Earlier r c i → kept_place plan.sessions s v ≡ j → (kept.session ≡ s) × (kept.wire ≡ v)
   this_wire v c i e here =
       let named = ap (λ list. slice_index_or list j no_kept) (same ∙ is.kept r) ∙ ap (λ n. slice_index_or (kept_from r plan.sessions) n no_kept) (sym here) ∙ ((kept_have_places plan.sessions).there s v r c i ls e).1 in
       (ap (λ (wire : KeptWire). wire.session) named, ap (λ (wire : KeptWire). wire.wire) named)
@@ -61,7 +61,7 @@ module _ (plan : Plan) (is : IsPlan plan) (r s j : ℕ) (part : Session) (items 
         let q = first_input (session plan s) + v in
         updates q ∙ cond-true (nat_eq (base + kept.wire) q) (Some number) (old q) (eq-eqb (base + kept.wire) q (omega (arith, e, begin)))
 
-    of_another : (v q c i : ℕ) → q < r → source (session plan s) v ≡ Carried q c i → v ≢ kept.wire
+    of_another : (v q c i : ℕ) → q < r → source (session plan s) v ≡ Earlier q c i → v ≢ kept.wire
     of_another v q c i less e same_wire =
         let carried : carries r (source (session plan s) v) ≡ true = subst (λ w. carries r (source (session plan s) w) ≡ true) (sym same_wire) (subst (λ n. carries r (source (session_at plan.sessions n) kept.wire) ≡ true) here at.carried) in
         omega (arith, less, eqb-true q r (sym (ap (carries r) e) ∙ carried))
@@ -161,6 +161,6 @@ returns c = λ v q i j less e.
           let kept = c.kept-kept-items.ensures ∙ ap (λ (x : Session). x.kept) c.part-part.ensures in
           let place = subst (λ r. kept_place plan.sessions s v < length (session plan r).kept) same at.place in
           subst (IsReceived plan s c.loop-place.received v) (sym same)
-          (c.loop-place.invariant.places v i j (e ∙ ap (λ r. Carried r i j) same) (omega (arith, c.loop-place-test.false, place, ap length kept)))
+          (c.loop-place.invariant.places v i j (e ∙ ap (λ r. Earlier r i j) same) (omega (arith, c.loop-place-test.false, place, ap length kept)))
       | inr ne ↦ c.loop-place.invariant.before v q i j (omega (arith, less, ne)) e
     ]

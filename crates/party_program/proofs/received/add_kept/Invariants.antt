@@ -1,5 +1,5 @@
 use Rattle.std.proofs.Common.{◌≡◌, ℕ, ◌<◌}
-use Rattle.job_session.specs.declared.source.Source.TheVariants.{Carried}
+use Rattle.job_session.specs.declared.source.Source.TheVariants.{Earlier}
 use Rattle.job_session.specs.Sessions.{source}
 use Rattle.job_session.specs.Carries.{kept_place}
 use Rattle.job_plan.specs.Plans.{session}
@@ -10,5 +10,5 @@ use Rattle.party_program.proofs.received.add_kept.Given as goal
 abbrev pub invariant-loop-place : goal.invariant-loop-place
 invariant-loop-place l = record {
   before : AreReceived l.plan l.s l.r l.received;
-  places : (v c i : ℕ) → source (session l.plan l.s) v ≡ Carried l.r c i → kept_place l.plan.sessions l.s v < l.place → IsReceived l.plan l.s l.received v l.r;
+  places : (v c i : ℕ) → source (session l.plan l.s) v ≡ Earlier l.r c i → kept_place l.plan.sessions l.s v < l.place → IsReceived l.plan l.s l.received v l.r;
 }

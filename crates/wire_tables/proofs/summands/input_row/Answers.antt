@@ -4,7 +4,7 @@ use Rattle.std.proofs.lemmas.Bool.{cases_lt, eq-eqb}
 use Rattle.std.proofs.lemmas.List.{get_or_past}
 use Rattle.std.proofs.lemmas.Result.{on_ok_weaker}
 use Rattle.list_laws.proofs.JoinedLists.{length-listed, listed_at}
-use Rattle.job_session.specs.declared.source.Source.TheVariants.{Given, Carried}
+use Rattle.job_session.specs.declared.source.Source.TheVariants.{Given, Earlier}
 use Rattle.job_session.specs.Sessions.{Session, given_by, owners, source}
 use Rattle.job_session.specs.Sessions.Slot.{Input}
 use Rattle.job_plan.specs.Plans.{deals_in, session, slot}
@@ -51,10 +51,10 @@ pub row-requires-clause-wire : goal.row-requires-clause-wire
 row-requires-clause-wire c =
     let plan = c.args.world.now.plan.now in
     let w : World = world_of c.args.world.now in
-    let r = c.in-Carried.session in
-    let wire = carried_wire plan r c.in-Carried.value c.in-Carried.wire in
-    let from : source (session plan c.args.before.now.session) c.args.v ≡ Carried r c.in-Carried.value c.in-Carried.wire = ap (λ (y : Session). source y c.args.v) (sym c.part.ensures) ∙ sym c.source.ensures ∙ c.in-Carried.is in
-    let row = c.requires.before.carried.are c.args.before.now.session c.args.v r c.in-Carried.value c.in-Carried.wire from (c.requires.whole.sound.earlier c.args.before.now.session c.args.v r c.in-Carried.value c.in-Carried.wire from) in
+    let r = c.in-Earlier.session in
+    let wire = carried_wire plan r c.in-Earlier.value c.in-Earlier.wire in
+    let from : source (session plan c.args.before.now.session) c.args.v ≡ Earlier r c.in-Earlier.value c.in-Earlier.wire = ap (λ (y : Session). source y c.args.v) (sym c.part.ensures) ∙ sym c.source.ensures ∙ c.in-Earlier.is in
+    let row = c.requires.before.carried.are c.args.before.now.session c.args.v r c.in-Earlier.value c.in-Earlier.wire from (c.requires.whole.sound.earlier c.args.before.now.session c.args.v r c.in-Earlier.value c.in-Earlier.wire from) in
     elim (cases_lt c.args.v (length (slice_index_or c.args.before.now.carried.now c.args.before.now.session []))) [
       | inl l ↦ l
       | inr past ↦
@@ -75,13 +75,13 @@ returns-in-Given c =
     (given_made w c.requires.whole c.args.before.now.session c.args.before.now.slot c.requires.before.in_session c.requires.before.in_slot c.args.before.now.places.now c.requires.before.places c.args.v p (slice_index c.args.before.now.given.now c.args.v) c.deal_into.new.row.items c.requires.input from word)
     c.deal_into.ensures
 
-pub returns-in-Carried : goal.returns-in-Carried
-returns-in-Carried c =
+pub returns-in-Earlier : goal.returns-in-Earlier
+returns-in-Earlier c =
     let plan = c.args.world.now.plan.now in
     let w : World = world_of c.args.world.now in
-    let r = c.in-Carried.session in
-    let from : source (session plan c.args.before.now.session) c.args.v ≡ Carried r c.in-Carried.value c.in-Carried.wire = ap (λ (y : Session). source y c.args.v) (sym c.part.ensures) ∙ sym c.source.ensures ∙ c.in-Carried.is in
-    let row = c.requires.before.carried.are c.args.before.now.session c.args.v r c.in-Carried.value c.in-Carried.wire from (c.requires.whole.sound.earlier c.args.before.now.session c.args.v r c.in-Carried.value c.in-Carried.wire from) in
+    let r = c.in-Earlier.session in
+    let from : source (session plan c.args.before.now.session) c.args.v ≡ Earlier r c.in-Earlier.value c.in-Earlier.wire = ap (λ (y : Session). source y c.args.v) (sym c.part.ensures) ∙ sym c.source.ensures ∙ c.in-Earlier.is in
+    let row = c.requires.before.carried.are c.args.before.now.session c.args.v r c.in-Earlier.value c.in-Earlier.wire from (c.requires.whole.sound.earlier c.args.before.now.session c.args.v r c.in-Earlier.value c.in-Earlier.wire from) in
     on_ok_weaker c.copy_into.result
-    (λ is. carried_made w c.requires.whole c.args.before.now.session c.args.before.now.slot c.requires.before.in_session c.requires.before.in_slot c.args.v r c.in-Carried.value c.in-Carried.wire c.copy_into.new.row.items c.requires.input from (is ∙ c.row.ensures ∙ row))
+    (λ is. carried_made w c.requires.whole c.args.before.now.session c.args.before.now.slot c.requires.before.in_session c.requires.before.in_slot c.args.v r c.in-Earlier.value c.in-Earlier.wire c.copy_into.new.row.items c.requires.input from (is ∙ c.row.ensures ∙ row))
     c.copy_into.ensures

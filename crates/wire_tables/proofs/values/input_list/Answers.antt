@@ -10,7 +10,7 @@ use Rattle.job_plan.proofs.GrownLists.{listed_push}
 use Rattle.share_world.specs.Worlds.{World, input_of, source_input}
 use Rattle.wire_tables.proofs.ValueSteps.{given_next, carried_next, given_within}
 use Rattle.wire_tables.proofs.values.input_list.Goals as goal
-use Rattle.wire_tables.proofs.values.input_list.Goals.{in-Given, in-Carried}
+use Rattle.wire_tables.proofs.values.input_list.Goals.{in-Given, in-Earlier}
 
 pub next_input-word-requires-clause-enough : goal.next_input-word-requires-clause-enough
 next_input-word-requires-clause-enough c =
@@ -52,8 +52,8 @@ loop-v-preserved c =
             given = λ q lq. ap (λ xs. slice_index xs q) (items ∙ new_is) ∙ given_next (source x) counts v p plan.parties c.loop-v.invariant.parties lp from c.loop-v.invariant.given q lq;
             list = c.in_ok-push.ensures.items ∙ listed_push v (input_of w s) c.loop-v.list.items c.match-source.word c.loop-v.invariant.list (b.word-is ∙ word);
           }
-      | in-Carried b ↦
-          let from = read ∙ b.in-Carried.is in
+      | in-Earlier b ↦
+          let from = read ∙ b.in-Earlier.is in
           let items : c.match-source.given.items ≡ counts = ap (λ (g : Vec ℕ). g.items) b.given-is in
           let none : (q : ℕ) → source x v ≡ Given q → ⊥ = λ q e. (let both = sym e ∙ from in cc) in
           record {
