@@ -1,5 +1,5 @@
 //! A fault as its line tells it.
-ghost use Rattle.std.specs.Prelude.{◌≡◌, ◌+◌, ◌≤◌, ◌<◌, [], ◌∷◌, length, map, codes};
+ghost use Rattle.std.specs.Prelude.{◌≡◌, ◌+◌, ◌≤◌, ◌<◌, [], length, map};
 ghost use Rattle.fault_table.specs.Tables.{fault, with_key, with_keys, of_party, on_line, at_place, found_for, in_session, told_value, told_key, Number, Signed, Text, Name, Party};
 
 use crate::key::{EntryKey, KeyValue};
