@@ -133,7 +133,7 @@ class Form:
 NAMED_BYTES, SHORT_BYTES = Form(8, False), Form(8, True)
 FORMS = [NAMED_BYTES, Form(1, True), Form(5, True), SHORT_BYTES, Form(12, True), Form(64, True)]
 
-# One for each length of frames.
+# One for each length of frames. In the hello, which is the same in all of them, each place is tried in two.
 LENGTHS = [form for form in FORMS if form.bits >= 8]
 
 OUTPUT = NAMED_BYTES.output()
@@ -212,13 +212,30 @@ def reset(link):
     link.close()
 
 
+def other_end(link):
+    """How the system's table tells the other end of a connection: its address and that of this end."""
+    return f'{written(link.getpeername())} {written(link.getsockname())} '
+
+
+def await_table(holds):
+    """Waits until a line of the system's table of connections is as it should be, or there is none."""
+    last = time.monotonic() + MOST_SECONDS
+    while time.monotonic() < last and not all(map(holds, pathlib.Path('/proc/net/tcp').read_text().splitlines())):
+        time.sleep(PAUSE)
+
+
 def hear_no_more(link):
     """Breaks a connection off, and waits until its other end has heard of it: what is said over another one comes later then."""
-    theirs = f'{written(link.getpeername())} {written(link.getsockname())} '
+    theirs = other_end(link)
     reset(link)
-    last = time.monotonic() + MOST_SECONDS
-    while theirs in pathlib.Path('/proc/net/tcp').read_text() and time.monotonic() < last:
-        time.sleep(PAUSE)
+    await_table(lambda line: theirs not in line)
+
+
+def say_no_more(link):
+    """Breaks a connection off once its other end has read all that was said: what it hasn't read the system drops with the connection."""
+    theirs = other_end(link)
+    await_table(lambda line: theirs not in line or f'{theirs}01 00000000:00000000' in line)
+    reset(link)
 
 
 def hear(link, count=None):
@@ -242,7 +259,7 @@ def say(links, peers):
                 elif turn == len(peer.pieces) and peer.then == ENDS:
                     links[name].shutdown(socket.SHUT_WR)
                 elif turn == len(peer.pieces) and peer.then == IS_RESET:
-                    reset(links[name])
+                    say_no_more(links[name])
         time.sleep(PAUSE)
 
 
@@ -334,6 +351,11 @@ def length_of(form, odd):
     return HELLO + form.length * len(FRAMES[odd + 'c'])
 
 
+def places_of(form, odd):
+    """After how many bytes a peer ends or is reset."""
+    return range(0 if form.bits == 8 else HELLO, length_of(form, odd))
+
+
 def pieces_of(form):
     """The lengths of pieces in which what is said in this form comes. Of short frames there are so many forms that two must do."""
     return [1, PIECES[-1]] if form.short else PIECES
@@ -341,7 +363,7 @@ def pieces_of(form):
 
 def each_end_is_told(numbers):
     for form, odd in itertools.product(LENGTHS, 'ab'):
-        for at, piece in itertools.product(range(length_of(form, odd)), pieces_of(form)):
+        for at, piece in itertools.product(places_of(form, odd), pieces_of(form)):
             job = Job(next(numbers), form=form)
             peer = Peer(job.talk(odd, 'c')[:at], piece, ENDS)
             yield stop(f'{form}: {odd} ends after {at} bytes in pieces of {piece}', job, beside(job, odd, peer, piece), f'fault closed peer={odd} at={at}\n',
@@ -351,7 +373,7 @@ def each_end_is_told(numbers):
 def each_read_that_fails_is_told(numbers):
     """Where c meets the failure once it has read all that was said before it."""
     for form, odd in itertools.product(LENGTHS, 'ab'):
-        for at, piece in itertools.product(range(HELLO if form.short else 0, length_of(form, odd)), [1, PIECES[-1]]):
+        for at, piece in itertools.product(places_of(form, odd), [1, PIECES[-1]]):
             job = Job(next(numbers), form=form)
             peer = Peer(job.talk(odd, 'c')[:at], piece, IS_RESET)
             yield stop(f'{form}: {odd} is reset after {at} bytes in pieces of {piece}', job, beside(job, odd, peer, piece), f'fault link peer={odd}\n',
