@@ -418,6 +418,39 @@ def programs_that_are_not_there(program, top):
     expect(done.stdout == b'x' and not done.stderr, f'{done}')
 
 
+# Calls the gate's script with a limit of a second.
+LATE_SCRIPT = ('import sys, runpy; sys.path.insert(0, sys.argv[1]); import waits; waits.MOST_SECONDS = 1; '
+               'runpy.run_path(sys.argv[2], run_name="__main__")')
+
+# An rt that says what the file says, or never ends.
+SLOW_RT = '#!/bin/sh\n[ ! -e "$FAKE/said" ] || exec cat "$FAKE/said"\nsleep 100 &\necho $! > "$FAKE/sleeper"\nwait\n'
+
+
+def programs_that_are_late(program, top):
+    """Each is told in one line, and is ended with what it started; so is the check of the gate that tries what must not compile."""
+    code = f"import subprocess, sys; sys.path.append('{TOP}/tests'); import waits; sys.exit(waits.told(lambda _: waits.ended(subprocess.Popen(['sleep', '100']), 1)))"
+    done = subprocess.run([sys.executable, '-B', '-c', code], capture_output=True, text=True, timeout=MOST_SECONDS)
+    expect((done.returncode, done.stdout, done.stderr) == (1, '', '-c: sleep 100 had not ended after 1 seconds\n'), f'{done}')
+    fake, script = pathlib.Path(top, 'rt'), TOP / '.ci/must-not-compile'
+    fake.write_text(SLOW_RT)
+    fake.chmod(0o755)
+
+    def tried():
+        words = [sys.executable, '-B', '-c', LATE_SCRIPT, TOP / 'tests', script]
+        return subprocess.run(words, capture_output=True, text=True, timeout=MOST_SECONDS, env={**os.environ, 'PATH': f'{top}:{os.environ["PATH"]}', 'FAKE': top})
+    done = tried()
+    expect(done.returncode == 1 and not done.stdout and done.stderr.endswith(': rt check had not ended after 1 seconds\n') and done.stderr.count('\n') == 1, f'{done}')
+    sleeper = pathlib.Path('/proc', pathlib.Path(top, 'sleeper').read_text().strip(), 'cmdline')
+    expect(not sleeper.exists() or not sleeper.read_bytes(), 'what rt started goes on')
+    edits = sorted((TOP / 'crates/tape_words/must-not-compile').glob('*.edit'))
+    errors = [re.search('(?m)^error: (.*)$', edit.read_text())[1] for edit in edits]
+    pathlib.Path(top, 'said').write_text(''.join(f'error[{error}]: no\n' for error in errors))
+    wanted = ''.join(f'must-not-compile: {edit.name} is refused with {error}\n' for edit, error in zip(edits, errors))
+    expect(((done := tried()).returncode, done.stdout, done.stderr) == (0, wanted, ''), f'{done}')
+    pathlib.Path(top, 'said').write_text('proved\n')
+    expect((done := tried()).returncode == 1 and done.stdout.count(' is NOT refused with ') == len(edits) > 0, f'{done}')
+
+
 # Folders.
 
 def odd_folders(program, top):
@@ -971,7 +1004,7 @@ def helps_are_there(program, top):
 
 CASES = [circuits_are_their_numbers, layers_are_together, circuits_come_into_layers, s_boxes_are_the_standards, aes_is_the_standards,
          circuits_have_limits, numbers_come_back, numbers_are_signed_and_divided, numbers_that_do_not_fit, other_lines_are_refused,
-         views_are_passed_over, outputs_that_fail, programs_that_are_not_there, odd_folders, links_and_folders,
+         views_are_passed_over, outputs_that_fail, programs_that_are_not_there, programs_that_are_late, odd_folders, links_and_folders,
          changed_jobs_are_read_or_refused, expressions_are_words, refusals_are_those_of_the_rows,
          circuits_come_to_the_rows, examples_have_their_circuits, expressions_are_refused_in_one_line, an_auction_of_two, jobs_of_calls,
          jobs_with_helpers, numbers_are_divided_by_values, doubts_are_told, formulas_are_those_of_the_rows, pictures_count_what_runs_send,
