@@ -14,8 +14,9 @@ the others give and read nothing. Any two may know everything, and one alone lea
     --fewest rounds        the layers of the whole circuit stay together, which takes fewer rounds of nodes and carries more
     --gates N              at most so many gates in a session, for smaller ones
 
-The sessions are as few as can be, and are cut where few wires live. Each is in layers. Who gives an input value gives it once, and output
-values are read once, both in the order of the circuit: so examples/numbers.py writes and reads its numbers. What no output needs is left out.
+The sessions are as few as a search finds, which in a tight case may be one more than would do, and are cut where few wires live. Each is in layers.
+Who gives an input value gives it once, and output values are read once, both in the order of the circuit: so examples/numbers.py writes and reads
+its numbers. What no output needs is left out.
 
 Prints what the file has and by how much that is more than one session takes; the gates, the products, the rounds of nodes and the messages of
 each session, and the words that it carries from earlier ones; and these of the whole job. A circuit that is past a limit of a job is
@@ -211,7 +212,7 @@ def fitted(circuit, order, owners, count, most_gates):
 
 
 def cut(circuit, owners, most_gates, fewest):
-    """The parts of a circuit, as few as can be, by the order of its gates that has the fewest wires alive where it is cut, or takes few rounds."""
+    """The parts of a circuit, as few as a search finds, by the order of its gates that has the fewest wires alive where it is cut, or takes few rounds."""
     wires = needed(circuit)
     count = max(1, -(-len(wires) // most_gates))
     need(count <= MOST_SESSIONS, f'the job passes {past(MOST_SESSIONS * most_gates, f"gates of {MOST_SESSIONS} sessions", len(wires))}')
