@@ -1,8 +1,8 @@
 """What a party starts so that its connections to the others go through tunnels, by ssh or by stunnel; and the key and the certificate by which
 stunnel knows a party.
 
-A tunnel takes a connection at once, also where the node behind it isn't there yet, and drops it then; and a node takes a dropped connection
-for a fault. So what lets others in is started first, then all nodes, which wait, and last what goes out.
+A tunnel takes a connection at once, also where the node behind it isn't there yet, and drops it then; and a node that has a connection makes no other,
+so that all would wait in vain. So what lets the others in is started first, then all nodes, which try until they are let in, and last what goes out.
 """
 
 import os
@@ -23,6 +23,7 @@ KEY_DAYS = 365
 HEAD = '''foreground = yes
 pid =
 syslog = no
+debug = warning
 sslVersionMin = TLSv1.3
 cert = {name}.pem
 key = {name}.key
