@@ -10,8 +10,8 @@
 
 'split' writes a folder for each party, FOLDER/NAME, with the job's file, its circuits and that party's own file alone: all of them, or
 none where a file is missing. With hosts, one for each party in order, and a port it adds these to a job that has none. With --frames short
-a message is its word alone, and with --views own each node writes its own view behind its outputs: both are fields of jobs of version 2, so
-that of a formula the list of the groups that must learn nothing is left. Their other texts are 'named' and 'none'.
+what is sent for a message is its word alone, and with --views own each node writes its own view behind its outputs. Both are fields of version 2,
+so a formula gives way to the list of the groups that must learn nothing. The other texts are 'named' and 'none'.
 
 'compare' prints the digest by which nodes tell a job, and those of its files, side by side for several folders, and says which file of
 which folder differs. Of one folder it prints them whole, to be read to the others. It ends with status 1 where folders differ.
@@ -21,7 +21,7 @@ certificate. It needs 'openssl'.
 
 'tunnels' prints what the party NAME starts so that its connections to each peer go through tunnels: the lines of 'ssh', and the two
 configurations of 'stunnel', of what is let in and of what goes out. With one of the three words it prints that one alone. The hosts are the
-computers of all parties in order; the job's own must be this machine for each.
+parties' computers, in order; those of the job are 127.0.0.1 for all, so that nodes are reached by tunnels alone.
 
 'wait' is for all parties at once, before a run: each listens and connects where its node NAME would, for SECONDS (60 where it isn't said),
 and prints which peers it reaches, which reach it, and which have another job. It ends with status 0 once all are ready. A node that runs
@@ -88,6 +88,8 @@ def need_hosts(hosts, parties):
 
 def in_version_2(fields):
     """The fields of the same job in version 2, where a list of the groups that must learn nothing stands in place of a formula."""
+    if fields.get('version') != 1:
+        return fields
     listed = {'tolerated' if name == 'formula' else name: tolerated_of(fields) if name == 'formula' else value for name, value in fields.items()}
     return {**listed, 'version': 2}
 
