@@ -1,7 +1,8 @@
 #!/usr/bin/env python3
-"""Writes what the documents have from the sources: the pages docs/STATEMENT*.md, and the tables of docs/CLAIMS.md. It tells each clause that no row of
-CLAIMS.md has, each row without a function, each edit that no row names, and how many names of each page several modules define. With --check it writes
-nothing, and tells each page that isn't what it would write, or that it wouldn't write at all. Ends with status 1 where something doesn't fit."""
+"""Writes what the documents have from the sources: the pages docs/STATEMENT*.md, the tables of docs/CLAIMS.md, and the functions that docs/CALLING.md
+quotes. It tells each clause that no row of CLAIMS.md has, each row without a function, each edit that no row names, and how many names of each page
+several modules define. With --check it writes nothing, and tells each page that isn't what it would write, or that it wouldn't write at all. Ends with
+status 1 where something doesn't fit."""
 
 import pathlib
 import sys
@@ -10,6 +11,7 @@ HERE = pathlib.Path(__file__).resolve().parent
 sys.path[1:1] = [str(HERE / 'written'), str(HERE.parent / 'tests')]
 
 from claims import Claims  # noqa: E402
+from quotes import Quotes  # noqa: E402
 from sources import Sources  # noqa: E402
 from statement import Statement  # noqa: E402
 from waits import told  # noqa: E402
@@ -21,8 +23,9 @@ def main(words):
         return 2
     sources = Sources()
     statement, claims = Statement(sources), Claims(sources, (HERE / 'CLAIMS.md').read_text(encoding='utf-8'))
-    wrong = [*statement.faults(), *claims.faults()]
-    pages = statement.texts | {'CLAIMS.md': claims.text()}
+    calling = Quotes('CALLING.md', (HERE / 'CALLING.md').read_text(encoding='utf-8'))
+    wrong = [*statement.faults(), *claims.faults(), *calling.faults()]
+    pages = statement.texts | {'CLAIMS.md': claims.text(), calling.name: calling.text}
     wrong += [f'docs/{page.name} is written by nothing' for page in sorted(HERE.glob('STATEMENT*.md')) if page.name not in pages]
     for page, text in ((HERE / name, text) for name, text in pages.items()):
         if not words:

@@ -14,9 +14,8 @@ the others give and read nothing. Any two may know everything, and one alone lea
     --fewest rounds        the layers of the whole circuit stay together, which takes fewer rounds of nodes and carries more
     --gates N              at most so many gates in a session, for smaller ones
 
-The sessions are as few as a search finds, which in a tight case may be one more than would do, and are cut where few wires live. Each is in layers.
-Who gives an input value gives it once, and output values are read once, both in the order of the circuit: so examples/numbers.py writes and reads
-its numbers. What no output needs is left out.
+The sessions are as few as can be where the gates keep the order of the file or one of two others, and are cut where few wires live. Each is in layers. Who gives an input value gives it once, and output
+values are read once, both in the order of the circuit: so examples/numbers.py writes and reads its numbers. What no output needs is left out.
 
 Prints what the file has and by how much that is more than one session takes; the gates, the products, the rounds of nodes and the messages of
 each session, and the words that it carries from earlier ones; and these of the whole job. A circuit that is past a limit of a job is
@@ -24,8 +23,8 @@ refused before anything is written, with the limit and by how much.
 """
 
 import array
-import bisect
 import collections
+import functools
 import itertools
 import operator
 import os
@@ -35,7 +34,7 @@ import sys
 from by_layers import NOTHING, talking_batches
 from circuit_reader import MOST_READ_BYTES, PRODUCTS, Fault, read_circuit
 from circuits import MOST_GATES
-from cut_places import best_cuts, depth_first, in_layers, lives, needed, spread, times
+from cut_places import begins, best_cuts, depth_first, in_layers, lives, needed, spread, times
 from doubts import doubt_structure
 from job_folder import MOST_SESSIONS, MOST_VALUES, MOST_WIRES, Refusal, job_text, need, read_bytes, read_fields, run_script, write_new
 from summands import Sharing, groups_of
@@ -164,46 +163,43 @@ def parts_with_values(circuit, order, cuts, owners):
 
 
 class Order:
-    """The gates in some order, and how many wires live at each place of it."""
+    """The gates in some order, how many wires live at each place of it, and where a part begins that has at most so many gates."""
 
-    def __init__(self, circuit, wires, owners):
-        self.wires = wires
-        self.live, self.live_inputs, given = lives(circuit, wires, owners)
-        self.with_given = [place + count for place, count in enumerate(given)]
+    def __init__(self, circuit, wires, owners, most_gates):
+        self.circuit, self.owners, self.most_gates = circuit, owners, most_gates
+        self.wires = [wire for wire in wires if wire not in circuit.constants]
+        self.live = lives(circuit, self.wires, owners)
 
     def cost(self, sizes):
         """How many wires live at all cuts, where these are the best."""
         return best_cuts(self.live, sizes)[0]
 
-    def earliest(self, place, size):
-        """Where a part of some size that ends at some place may begin, so that there is room for a copy of each input that is given in it and lives on: those
-        are no more than what lives on, and no more than what is given."""
-        return min(place - size + self.live_inputs[place], bisect.bisect_left(self.with_given, self.with_given[place] - size))
+    @functools.cached_property
+    def begins(self):
+        return begins(self.circuit, self.wires, self.owners, self.most_gates)
+
+    def with_copies(self, place, size):
+        """Where a part of at most this size that ends at this place may begin, so that it has room for its copies and constants."""
+        return max(place - size, self.begins[place])
 
 
-def orders_of(circuit, wires, owners, sizes, fewest):
-    """The orders that are tried: that of the file, and where more than few wires live at its cuts, each gate just behind what it needs, for the first
-    output and then the next ones, or for the last and then those before it. For few rounds there is one, by layers."""
-    if fewest == ROUNDS:
-        return [Order(circuit, in_layers(circuit, wires)[0], owners)]
-    orders = [Order(circuit, wires, owners)]
-    if orders[0].cost(sizes) > FEW * (len(sizes) - 1):
-        orders += [Order(circuit, depth_first(circuit, results), owners) for results in (circuit.results, circuit.results[::-1])]
-    return orders
+def other_orders(circuit, owners, most_gates):
+    """Each gate just behind what it needs, for the first output and then the next ones, or for the last and then those before it."""
+    return [Order(circuit, depth_first(circuit, results), owners, most_gates) for results in (circuit.results, circuit.results[::-1])]
 
 
-def fitted(circuit, order, owners, count, most_gates):
+def fitted(order, count):
     """So many parts, cut where few wires live, and by how much they are too large. Copies, constants and values are known once it is cut: so where a part
-    is too large, it gets fewer gates, each time more so, and it is cut anew. Where that doesn't help, there is room for copies of inputs
-    beforehand, as many as there may be."""
-    for earliest in (operator.sub, order.earliest):
-        sizes = [most_gates] * count
+    is too large, it gets fewer gates, each time more so, and it is cut anew. Where that doesn't help, each part begins where it has room for its
+    copies and constants too, which takes longer to find."""
+    for earliest in (operator.sub, order.with_copies):
+        sizes = [order.most_gates] * count
         for number in range(1, TRIES + 1):
             found = best_cuts(order.live, sizes, earliest)
             if found is None:
                 break
-            parts = parts_with_values(circuit, order.wires, found[1], owners)
-            excess = [part.excess(most_gates) for part in parts]
+            parts = parts_with_values(order.circuit, order.wires, found[1], order.owners)
+            excess = [part.excess(order.most_gates) for part in parts]
             if not any(excess):
                 return parts, 0
             lengths = [last - first for first, last in itertools.pairwise(found[1])]
@@ -211,16 +207,32 @@ def fitted(circuit, order, owners, count, most_gates):
     return parts, sum(excess)
 
 
+def first_fitted(orders, count):
+    """So many parts of the first of these orders that has them, else of the first order, and by how much they are too large."""
+    tried = []
+    for order in orders:
+        tried.append(fitted(order, count))
+        if tried[-1][1] == 0:
+            return tried[-1]
+    return tried[0]
+
+
 def cut(circuit, owners, most_gates, fewest):
-    """The parts of a circuit, as few as a search finds, by the order of its gates that has the fewest wires alive where it is cut, or takes few rounds."""
+    """The parts of a circuit, as few as its gates let them be in one of the orders that are tried, cut where few wires live. For few rounds there is one
+    order, by layers. Else there is that of the file and, where it needs more sessions or more than few wires live at its cuts, there are two others."""
     wires = needed(circuit)
     count = max(1, -(-len(wires) // most_gates))
     need(count <= MOST_SESSIONS, f'the job passes {past(MOST_SESSIONS * most_gates, f"gates of {MOST_SESSIONS} sessions", len(wires))}')
-    orders = orders_of(circuit, wires, owners, [most_gates] * count, fewest)
+    orders, others = [Order(circuit, in_layers(circuit, wires)[0] if fewest == ROUNDS else wires, owners, most_gates)], fewest == WIRES
+    if others and orders[0].cost([most_gates] * count) > FEW * (count - 1):
+        orders, others = orders + other_orders(circuit, owners, most_gates), False
     tried = []
     for sessions in range(count, MOST_SESSIONS + 1):
-        best = min(orders, key=lambda order: order.cost([most_gates] * sessions))
-        parts, excess = fitted(circuit, best, owners, sessions, most_gates)
+        orders.sort(key=lambda order: order.cost([most_gates] * sessions))
+        parts, excess = first_fitted(orders, sessions)
+        if excess and others:
+            orders, others = orders + other_orders(circuit, owners, most_gates), False
+            parts, excess = first_fitted(orders[1:], sessions)
         tried.append(excess)
         if excess == 0 or len(tried) > 2 and tried[-3] <= min(tried[-2:]):
             break

@@ -2,6 +2,7 @@
 
 import array
 import bisect
+import collections
 import itertools
 import math
 import operator
@@ -89,9 +90,9 @@ def spread(widths, values):
     return list(itertools.chain.from_iterable(map(itertools.repeat, values, widths)))
 
 
-def lives(circuit, order, owners):
-    """How many wires live at each place of the order, which are set before it, and read behind it; how many of them are inputs; and how many inputs that live
-    at some place are given before it. A constant is made anew."""
+def timetable(circuit, order, owners):
+    """At which place of the order each wire is set, when each input wire is given and each wire of an output value is read, and where each wire is read last,
+    which is -1 where nothing reads it."""
     inputs, last = sum(circuit.inputs), max(len(order) - 1, 0)
     places, last_read = array.array('i', bytes(4 * len(circuit.operations))), array.array('i', [-1]) * len(circuit.operations)
     first_read = [last] * inputs
@@ -104,20 +105,84 @@ def lives(circuit, order, owners):
                     first_read[operand] = place
                 last_read[operand] = place
     given, read = times(circuit, owners, places, first_read, last)
-    places[:inputs] = array.array('i', spread(circuit.inputs, given))
-    for wire, place in zip(circuit.results, spread(circuit.outputs, read)):
+    given, read = spread(circuit.inputs, given), spread(circuit.outputs, read)
+    places[:inputs] = array.array('i', given)
+    for wire, place in zip(circuit.results, read):
         last_read[wire] = max(last_read[wire], place)
-    live, live_inputs, given_inputs = (array.array('i', bytes(4 * (len(order) + 2))) for _ in range(3))
-    for wire in itertools.chain(range(inputs), order):
+    return places, given, read, last_read
+
+
+def lives(circuit, order, owners):
+    """How many wires live at each place of the order, which are set before it, and read behind it. A constant is made anew."""
+    places, given, _, last_read = timetable(circuit, order, owners)
+    live = array.array('i', bytes(4 * (len(order) + 2)))
+    for wire in itertools.chain(range(len(given)), order):
         first, end = places[wire] + 1, last_read[wire] + 1
         if end > first and wire not in circuit.constants:
             live[first] += 1
             live[end] -= 1
-            if wire < inputs:
-                live_inputs[first] += 1
-                live_inputs[end] -= 1
-                given_inputs[first] += 1
-    return [list(itertools.accumulate(counts[:len(order) + 1])) for counts in (live, live_inputs, given_inputs)]
+    return list(itertools.accumulate(live[:len(order) + 1]))
+
+
+class Weights:
+    """Numbers at places, of which those from some place on are added up (a Fenwick tree). At no place do they come to less than 0."""
+
+    def __init__(self, count):
+        self.count, self.total, self.sums = count, 0, [0] * (count + 1)
+
+    def add(self, place, number):
+        self.total += number
+        place += 1
+        while place <= self.count:
+            self.sums[place] += number
+            place += place & -place
+
+    def earliest(self, most):
+        """The first place from which on they come to no more than this."""
+        place, before = 0, self.total - most
+        for step in reversed(range(self.count.bit_length())):
+            after = place + (1 << step)
+            if after <= self.count and self.sums[after] < before:
+                place, before = after, before - self.sums[after]
+        return place + 1 if before > 0 else 0
+
+
+def begins(circuit, order, owners, most):
+    """For each place of the order where the earliest part of at most so many gates begins that ends there, copies and constants among them, if each wire
+    goes on in one value. A part that begins earlier has no fewer gates: so the parts are as few as they can be where each is as long as it can be."""
+    places, given, read, last_read = timetable(circuit, order, owners)
+    weights, changes = Weights(len(order) + 1), [[] for _ in range(len(order) + 2)]
+    for wire, place in zip(range(len(given)), given):
+        if last_read[wire] > place:
+            changes[place + 1].append((place, 1))
+            changes[last_read[wire] + 1].append((place, -1))
+    made, constants = {}, collections.defaultdict(set)
+    for wire, place in zip(circuit.results, read):
+        changes[place + 1].append((place, 1))
+        if wire in circuit.constants:
+            constants[wire].add(place)
+        elif wire >= len(given):
+            made[wire] = places[wire]
+    for wire, place in made.items():
+        changes[last_read[wire] + 1].append((place, -1))
+    for wire, its_places in constants.items():
+        for earlier, place in itertools.pairwise([None, *sorted(its_places)]):
+            changes[place + 1] += [(place, -1)] + ([(earlier, 1)] if earlier is not None else [])
+    latest, found = {}, []
+    for end in range(len(order) + 1):
+        if end:
+            weights.add(end - 1, 1)
+        reads = [wire for wire in (operands(circuit, order[end - 1]) if end else []) if wire in circuit.constants]
+        reads += [wire for wire, its_places in constants.items() if end - 1 in its_places]
+        for wire in reads:
+            changes[end].append((end - 1, 1))
+            if wire in latest:
+                changes[end].append((latest[wire], -1))
+            latest[wire] = end - 1
+        for place, number in changes[end]:
+            weights.add(place, number)
+        found.append(weights.earliest(most))
+    return found
 
 
 def best_cuts(live, sizes, earliest=operator.sub):

@@ -32,7 +32,8 @@ from circuit_faults import CIRCUIT_FAULTS  # noqa: E402
 from circuit_files import CIRCUIT_FILES  # noqa: E402
 from circuit_reader import read_circuit  # noqa: E402
 from circuits import MOST_GATES, Circuit, circuit_of as circuit_file  # noqa: E402
-from cut_places import best_cuts  # noqa: E402
+from cut import Order, parts_with_values  # noqa: E402
+from cut_places import best_cuts, depth_first, needed  # noqa: E402
 from in_the_clear import OPERATE, fields, out_in_the_clear  # noqa: E402
 from mutate import CHANGES  # noqa: E402
 from random_expressions import random_groups  # noqa: E402
@@ -208,6 +209,33 @@ def sessions_are_as_few_as_can_be(program, top):
     for count, sessions in [(400, 4), (401, 5)]:
         told = try_cut(program, top, chance, random_circuit(chance, KINDS[1], count, [8, 8], [3], 9, 0, 40), 100)
         expect(f'job sessions {sessions} gates {count} ' in told, told)
+
+
+def fewest_parts(order, most):
+    """The fewest parts into which the gates can be cut in this order, by trying all ways, if there are no more than four."""
+    for count in range(1, 5):
+        for places in itertools.combinations(range(1, len(order.wires)), count - 1):
+            parts = parts_with_values(order.circuit, order.wires, [0, *places, len(order.wires)], order.owners)
+            if not any(part.excess(most) for part in parts):
+                return count
+    return 5
+
+
+def sessions_are_as_few_as_an_order_lets_them_be(program, top):
+    """Where inputs that go on, constants and output values that are copies take room too, no other cut of the same orders has fewer sessions."""
+    chance = random.Random(7)
+    for number in range(40):
+        widths = [chance.randrange(1, 4) for _ in range(chance.randrange(1, 4))]
+        kind, outputs, near = KINDS[number % 2], [chance.randrange(1, 3) for _ in range(2)], chance.choice([2, 5, 12])
+        sample = random_circuit(chance, kind, chance.randrange(8, 17), widths, outputs, near, chance.choice([0, 0.2, 0.5]), 3)
+        circuit, owners = read_circuit(sample.text.encode(), sample.bits, sample.of_bits), [chance.choice('ab') for _ in widths]
+        most = max(widths) + chance.randrange(2, 7)
+        wires = needed(circuit)
+        orders = [Order(circuit, ordered, owners, most)
+                  for ordered in (wires, *(depth_first(circuit, results) for results in (circuit.results, circuit.results[::-1])))]
+        parts, fewest = cut.cut(circuit, owners, most, 'wires'), min(fewest_parts(order, most) for order in orders)
+        found = len(parts) if not any(part.excess(most) for part in parts) else 6
+        expect(found <= fewest or fewest > 4, f'{sample.text}\nat most {most} gates: {found} sessions, where {fewest} would do')
 
 
 def rounds_are_few(program, top):
@@ -477,8 +505,8 @@ def words_are_refused(program, top):
         expect(done.stderr.count(b'\n') <= 1 and b'Traceback' not in done.stderr, f'{words}: {done.stderr[-200:]!r}')
 
 
-CASES = [digests_of_jobs_are_pythons, a_digest_by_nodes_with_an_audit, large_circuits_come_to_the_same, small_circuits_come_to_the_same, sessions_are_as_few_as_can_be, rounds_are_few, cuts_are_the_best,
-         few_wires_live_where_it_is_cut, faults_are_those_of_the_rows, changed_circuits_are_read_as_the_program_reads_them, limits_are_told,
+CASES = [digests_of_jobs_are_pythons, a_digest_by_nodes_with_an_audit, large_circuits_come_to_the_same, small_circuits_come_to_the_same,
+         sessions_are_as_few_as_can_be, sessions_are_as_few_as_an_order_lets_them_be, rounds_are_few, cuts_are_the_best, few_wires_live_where_it_is_cut, faults_are_those_of_the_rows, changed_circuits_are_read_as_the_program_reads_them, limits_are_told,
          many_values_are_carried, others_point_at_it, digests_are_pythons, words_are_refused]
 
 

@@ -1,7 +1,10 @@
 //! Calls of the program with what no peer and no file shows: a node over links in memory of which one call fails, readers that
-//! are not started, and workers that are held in their first call.
+//! are not started, and workers that are held in their first call; and what no call of the program shows, of the functions that
+//! are for who calls the crates.
 #![tactic(auto)]
 
+#[cfg(test)]
+mod calling;
 #[cfg(test)]
 mod calls;
 #[cfg(test)]
@@ -10,6 +13,10 @@ mod faults;
 mod files;
 #[cfg(test)]
 mod links;
+#[cfg(test)]
+mod programs;
+#[cfg(test)]
+mod sockets;
 #[cfg(test)]
 mod talks;
 #[cfg(test)]

@@ -8,13 +8,16 @@ use std::alloc::{AllocError, Global};
 use std::process::Abort;
 use std::sync::atomic::{AtomicU64, Ordering};
 use std::test::Fail;
+use std::thread;
+use std::time::{Clock, Duration};
 
-/// The most turns that a worker is held.
-const MOST_TURNS: u32 = 100_000_000;
+/// The most milliseconds that a worker is held, which a machine with much other work keeps too.
+const MOST_MILLISECONDS: u32 = 40_000;
 
 /// Holds each worker in its first call until all were called, and worker 0 until worker 1 was called for some desks as well.
 #[derive(Drop)]
-struct Held {
+struct Held<'r, R> {
+    rt: &'r R,
     /// Those desks, a bit for each.
     desks: u64,
     /// The desks for which each worker was called.
@@ -23,13 +26,14 @@ struct Held {
     missed: AtomicU64,
 }
 
-impl Held {
-    fn new(alloc: Global, workers: u32, desks: u64) -> Result<Held, AllocError> {
+impl<'r, R: Clock> Held<'r, R> {
+    fn new(rt: &'r R, alloc: Global, workers: u32, desks: u64) -> Result<Self, AllocError> {
         let mut called = Vec::new(alloc);
         for _ in 0..workers {
             called.push(AtomicU64::new(0))?;
         }
         Ok(Held {
+            rt,
             desks,
             called,
             missed: AtomicU64::new(0),
@@ -53,16 +57,17 @@ impl Held {
     }
 
     fn wait(&self, worker: u32) {
-        for _ in 0..MOST_TURNS {
+        for _ in 0..MOST_MILLISECONDS {
             if self.is_free(worker) {
                 return;
             }
+            thread::sleep(self.rt, Duration::from_millis(1));
         }
         self.missed.fetch_add(1, Ordering::SeqCst);
     }
 }
 
-impl Pace for Held {
+impl<R: Clock + Sync> Pace for Held<'_, R> {
     fn before(&self, worker: u32, desk: u32) {
         let earlier = self.desks_of(worker);
         if let Some(desks) = self.called.get(worker as usize) {
@@ -109,7 +114,7 @@ fn workers_run_at_the_same_time(rt: HostRuntime) -> Result<(), Fail> {
             err: "",
             taken: [0, 0],
         };
-        let pace = Held::new(rt.alloc(), workers, desks)?;
+        let pace = Held::new(&rt, rt.alloc(), workers, desks)?;
         expect_answer(&rt, rt.alloc(), &call, &pace)?;
         assert_eq!(rt; pace.missed.load(Ordering::SeqCst), 0, "held in vain");
     }
