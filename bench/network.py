@@ -3,16 +3,18 @@
 
 The jobs are the auction of examples/network, AES-128 of examples/aes, with its circuit as it is made and in layers, and SHA-256 of a message of one block of
 examples/sha256, in sessions that carry, with words that are added bit by bit and by trees of carries. Each is run ROUNDS times
-(20, where the environment doesn't say) by a node for each party, all started at once, and once by 'mpc run'. Prints for each job
-its messages and bytes, its rounds, the least time of the nodes and that of the run in one process, and the time of one run of the nodes over
-links on which each byte takes 20 milliseconds (relay.py). Ends with status 1 where a node fails or writes anything else than 'mpc run' does.
+(20, where the environment doesn't say) by a node for each party, all started at once, with named frames and with short ones, and once by 'mpc
+run'. Prints for each job its messages, its bytes in both forms, its rounds, the least times of the nodes and that of the run in one process, and the
+time of one run of the nodes with short frames over links on which each byte takes 20 milliseconds (relay.py). Ends with status 1 where a node fails
+or writes anything else than 'mpc run' does.
 
-Bytes are those that all nodes send: a hello of 38 bytes to each peer, and 18 bytes a message, of which the word itself is at least ring_bits. A
+Bytes are those that all nodes send, as they are counted on the way: a hello of 38 bytes to each peer, and for a message 18 bytes or those of its word. A
 round is a run of slots that says something and of which none waits for another; a word that is carried is said to nobody. The rounds seen are those of a run over links that hold all that is sent
 until every node waits (relay.py). The least rounds that the protocol would need for the circuit are the products on its longest path, one for the
 inputs and one for the outputs: those of the circuit in layers. Of a job of several sessions they are the sum of these.
 """
 
+import collections
 import os
 import re
 import shutil
@@ -67,11 +69,14 @@ def time_alone(program, job):
     return time.perf_counter() - started
 
 
-def row(program, name, job, times):
+# What is measured of the nodes of a job: their least time, the rounds and the bytes that are seen, and their time over slow links.
+Measured = collections.namedtuple('Measured', 'best rounds sent delayed')
+
+
+def measure(program, job, form, run, times):
+    """What is measured of the nodes of a job with frames of this form, which must write what a run does."""
     with tempfile.TemporaryDirectory() as folder:
-        names = nodes.split(job, folder, [nodes.HERE] * 3, nodes.free_port(3), replace=True)
-        run = subprocess.run([program, 'run', job], check=True, capture_output=True, text=True).stdout
-        check = subprocess.run([program, 'check', job], check=True, capture_output=True, text=True).stdout
+        names = nodes.split(job, folder, [nodes.HERE] * 3, nodes.free_port(3), True, {'frames': form})
         expected = texts_of(run, names)
         best = min(time_nodes(program, folder, names, expected) for _ in range(times))
         port = read_fields(os.path.join(folder, names[0]))['port']
@@ -80,14 +85,19 @@ def row(program, name, job, times):
             delayed = time_nodes(program, folder, names, expected, relay)
         with Steps(ports, folder) as steps:
             time_nodes(program, folder, names, expected, steps)
-        alone = min(time_alone(program, job) for _ in range(times))
+    return Measured(best, steps.count, steps.bytes, delayed)
+
+
+def row(program, name, job, times):
+    run = subprocess.run([program, 'run', job], check=True, capture_output=True, text=True).stdout
+    check = subprocess.run([program, 'check', job], check=True, capture_output=True, text=True).stdout
+    named, short = (measure(program, job, form, run, times) for form in ('named', 'short'))
+    alone = min(time_alone(program, job) for _ in range(times))
     sessions = counts_of(job).sessions
     messages = int(re.search(r'^messages (\d+)$', check, re.M)[1]) - sum(session.kept for session in sessions)
-    parties = len(names)
-    sent = 38 * parties * (parties - 1) + 18 * messages
     rounds, least = map(sum, zip(*rounds_of_sessions(sessions)))
-    print(f'| {name} | {messages:,} | {sent:,} | {rounds:,} | {steps.count:,} | {least:,} '
-          f'| {1000 * best:.1f} | {1000 * alone:.1f} | {delayed:.2f} |', flush=True)
+    print(f'| {name} | {messages:,} | {named.sent:,} | {short.sent:,} | {rounds:,} | {short.rounds:,} | {least:,} '
+          f'| {1000 * named.best:.1f} | {1000 * short.best:.1f} | {1000 * alone:.1f} | {short.delayed:.2f} |', flush=True)
 
 
 def rounds_of_sessions(sessions):
@@ -116,9 +126,9 @@ def main(words):
         sys.exit('usage: network.py PROGRAM')
     program = os.path.abspath(words[1])
     times = int(os.environ.get('ROUNDS', '20'))
-    print('| Job | Messages | Bytes sent | Rounds | Rounds seen | Least rounds '
-          '| Milliseconds, nodes | Milliseconds, one process | Seconds, nodes 20 ms apart |')
-    print('|---|---|---|---|---|---|---|---|---|')
+    print('| Job | Messages | Bytes, named frames | Bytes, short frames | Rounds | Rounds seen | Least rounds '
+          '| Milliseconds, named | Milliseconds, short | Milliseconds, one process | Seconds, nodes 20 ms apart |')
+    print('|---|---|---|---|---|---|---|---|---|---|---|')
     row(program, 'auction of three', NETWORK, times)
     with tempfile.TemporaryDirectory() as folder:
         job = os.path.join(folder, 'aes')

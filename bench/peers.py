@@ -28,6 +28,8 @@ class Peers:
         job = read(folder, 'job.toml')
         fields = tomllib.loads(job.decode())
         self.names, self.port = fields['parties'], fields['port']
+        self.short, self.word_bytes = fields.get('frames') == 'short', (fields['ring_bits'] + 7) // 8
+        self.frame_bytes = self.word_bytes if self.short else 18
         self.me = self.names.index(name)
         self.others = [party for party in range(len(self.names)) if party != self.me]
         texts = [job] + [read(folder, session['circuit']) for session in fields['session']]
@@ -37,13 +39,16 @@ class Peers:
         self.due = {peer: self.talk(self.me, peer) for peer in self.others}
         self.heard = {}
 
+    def frame(self, session, slot, share, sender, receiver, word):
+        """The frame of a message, in the form that the job says."""
+        if self.short:
+            return int(word).to_bytes(self.word_bytes, 'big')
+        return struct.pack('>BHIBBBQ', 1, int(session), int(slot), int(share), self.names.index(sender), self.names.index(receiver), int(word))
+
     def talk(self, sender, receiver):
         """What one says to the other: its hello, and a frame for each message."""
-        bytes_ = b'MPC1' + bytes([sender, receiver]) + self.digest
-        for session, slot, share, *parties, word in self.messages:
-            if parties == [self.names[sender], self.names[receiver]]:
-                bytes_ += struct.pack('>BHIBBBQ', 1, int(session), int(slot), int(share), sender, receiver, int(word))
-        return bytes_
+        parties = [self.names[sender], self.names[receiver]]
+        return b'MPC1' + bytes([sender, receiver]) + self.digest + b''.join(self.frame(*message) for message in self.messages if message[3:5] == parties)
 
     def __enter__(self):
         self.heard = {peer: b'' for peer in self.others}

@@ -80,9 +80,9 @@ def audit_views(program, name, files):
 
 
 def views_of_nodes(program, job):
-    """What the nodes of a job tell of their own views, by the parties' names."""
+    """What the nodes of a job tell of their own views where it says that they do, by the parties' names."""
     nodes = EXAMPLES / 'network' / 'nodes.py'
-    written = subprocess.run([nodes, 'run', job, program, '--view'], stdin=subprocess.DEVNULL, capture_output=True, timeout=MOST_SECONDS, text=True)
+    written = subprocess.run([nodes, 'run', job, program, '--views', 'own'], stdin=subprocess.DEVNULL, capture_output=True, timeout=MOST_SECONDS, text=True)
     if written.returncode != 0:
         sys.exit(f'audits: the nodes of {job.name} failed: {written.stderr}')
     views, name = {}, None

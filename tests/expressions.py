@@ -3,11 +3,7 @@
 import json
 
 from accepted_runs import COUNTS_OF_A_PRODUCT
-from product import CHECK, Edit, RUN, Row, SEED, SESSION, TAPE_A, TAPE_B, TAPE_C, Whole, Without
-
-# The product's job in version 2, with the same groups that must learn nothing.
-VERSION_2 = [Edit('job.toml', 'version = 1', 'version = 2'),
-             Edit('job.toml', 'formula = "2 of (a, b, c)"', 'tolerated = [["a"], ["b"], ["c"]]')]
+from product import CHECK, Edit, RUN, Row, SEED, SESSION, TAPE_A, TAPE_B, TAPE_C, VERSION_2, Whole, Without
 
 EXPR = [*VERSION_2, Edit('job.toml', '"ring"', '"expr"')]
 

@@ -6,6 +6,8 @@ outputs. Then one peer of c says another byte, ends or is reset after any byte, 
 end with the status and the line that are worked out here, and have said to each peer what stands here. Many nodes run at once, each over
 addresses of its own; peers that end keep hearing, so no send of c fails unless it is to. Ends with status 1, and tells which nodes do
 otherwise. It needs Linux.
+
+All this is done over frames of both forms: named ones in a ring of 8 bits, and short ones in rings of 1, 5, 8, 12 and 64.
 """
 
 import collections
@@ -16,6 +18,7 @@ import itertools
 import os
 import pathlib
 import random
+import re
 import resource
 import socket
 import struct
@@ -26,7 +29,8 @@ import time
 
 from accepted_runs import PRODUCTS_OF_TWO_SESSIONS
 from in_the_clear import circuit_of, last_wires
-from product import Edit, Whole, product_with
+from product import Edit, PRODUCT, VERSION_2, Whole, product_with
+from views import lines_with
 from waits import MOST_SECONDS
 
 AT_ONCE = 32
@@ -37,10 +41,10 @@ PAUSE = 0.0005
 # The lengths of pieces in which bytes come: single bytes, others, frames, and all at once.
 PIECES = [1, 7, 18, 100_000]
 
-HELLO, FRAME = 38, 18
+HELLO, NAMED = 38, 18
 
-# How many bytes c hears of a peer before it sends its frames: the hello, and the frames of the inputs. It says as many.
-INPUTS = 74
+# How many frames of each peer c hears before it sends its own: those of the inputs. It sends as many.
+INPUTS = 2
 
 NAMES = 'abc'
 
@@ -49,31 +53,33 @@ NAMES = 'abc'
 NETWORK, PORT = random.randrange(1, 255), random.randrange(10_000, 32_000)
 
 # What the parties of the product say to one another behind their hellos: the slot, the share and the word of each frame, as they were worked
-# out by hand; and what is said to c and by c in the second session of two products.
+# out by hand in whole numbers, of which a ring of k bits has the remainders by 2^k; and what is said to c and by c in the second session of
+# two products. So the summands of 5 are 10, 20 and -25, those of 7 are 30, 40 and -63; b's part of the product is -1080, and c's 1000.
 FRAMES = {
-    'ab': [(0, 0, 10), (0, 2, 231), (2, 0, 1), (2, 2, 112)],
+    'ab': [(0, 0, 10), (0, 2, -25), (2, 0, 1), (2, 2, 112)],
     'ac': [(0, 0, 10), (0, 1, 20), (2, 0, 1), (2, 1, 2), (3, 2, 14)],
-    'ba': [(1, 1, 40), (1, 2, 193), (2, 1, 4), (2, 2, 193)],
+    'ba': [(1, 1, 40), (1, 2, -63), (2, 1, 4), (2, 2, -1087)],
     'bc': [(1, 0, 30), (1, 1, 40), (2, 0, 3), (2, 1, 4)],
-    'ca': [(2, 1, 6), (2, 2, 221)],
-    'cb': [(2, 0, 5), (2, 2, 221)],
+    'ca': [(2, 1, 6), (2, 2, 989)],
+    'cb': [(2, 0, 5), (2, 2, 989)],
 }
 SECOND_FRAMES = {
-    'ac': [(0, 0, 11), (0, 1, 21), (2, 0, 3), (2, 1, 4), (3, 2, 229)],
+    'ac': [(0, 0, 11), (0, 1, 21), (2, 0, 3), (2, 1, 4), (3, 2, -27)],
     'bc': [(1, 0, 31), (1, 1, 41), (2, 0, 5), (2, 1, 6)],
-    'ca': [(2, 1, 8), (2, 2, 63)],
-    'cb': [(2, 0, 7), (2, 2, 63)],
+    'ca': [(2, 1, 8), (2, 2, 1087)],
+    'cb': [(2, 0, 7), (2, 2, 1087)],
 }
 
-OUTPUT = 'out 0 0 c 35\n'
-TWO_OUTPUTS = 'out 0 0 c 35\nout 1 0 c 6\n'
+# The value that c reads, and the last summand of its part of the product, which it sends to both peers.
+VALUE, LAST = 35, 989
 
-# What c writes where the lowest bit of the word of a frame is another, and the last summand of its product, which it sends to both peers.
-# The words of a: 10 to 11, 20 to 21, 1 to 0, 2 to 3, 14 to 15; of b: 30 to 31, 40 to 41, 3 to 2, 4 to 5.
-OTHER_WORDS = {
-    'a': [(35, 5), (35, 251), (34, 221), (36, 221), (36, 221)],
-    'b': [(35, 241), (35, 231), (34, 221), (36, 221)],
+# By how much both are more where the word of a frame is one more. A summand of an input goes into c's part, by the summand of the other
+# input that c multiplies it with: 40, 30, 20 and 10. One of the product goes into what c writes.
+ONE_MORE = {
+    'a': [(0, 40), (0, 30), (1, 0), (1, 0), (1, 0)],
+    'b': [(0, 20), (0, 10), (1, 0), (1, 0)],
 }
+
 
 
 class Wrong(Exception):
@@ -85,10 +91,60 @@ def expect(holds, text):
         raise Wrong(text)
 
 
-class Job:
-    """The files of the product with some changes, with hosts of its own; and what is said in it."""
+class Form:
+    """The form of frames: named or short, in a ring of so many bits."""
 
-    def __init__(self, number, changes=(), frames=(FRAMES,)):
+    def __init__(self, bits, short):
+        self.bits, self.short = bits, short
+        self.length = (bits + 7) // 8 if short else NAMED
+        # A frame is a name of so many bytes, and then the word.
+        self.name = 0 if short else NAMED - 8
+
+    def __str__(self):
+        return f'{"short" if self.short else "named"} frames of {self.bits} bits'
+
+    def changes(self):
+        """What makes of the product's job, which has named frames in a ring of 8 bits, one of this form."""
+        short = [*VERSION_2, Edit('job.toml', '[[session]]\n', 'frames = "short"\n[[session]]\n')] if self.short else []
+        words = [Edit(name, text, self.in_ring(text)) for name, text in PRODUCT.items() if name.startswith('party_')]
+        return [*short, Edit('job.toml', 'ring_bits = 8', f'ring_bits = {self.bits}'), *words]
+
+    def in_ring(self, text):
+        """The text of a party with the words of the ring, of its inputs and of its tape."""
+        head, words = text.split('\n', 1)
+        return f'{head}\n{re.sub("[0-9]+", lambda word: str(self.word(int(word[0]))), words)}'
+
+    def word(self, number):
+        """The word of the ring that a whole number comes to."""
+        return number % 2**self.bits
+
+    def frame(self, session, slot, share, sender, receiver, word):
+        return word.to_bytes(self.length, 'big') if self.short else struct.pack('>BHIBBBQ', 1, session, slot, share, sender, receiver, word)
+
+    def at(self, place):
+        """Where the frame begins that a byte of a talk is in, and which frame it is."""
+        number = (place - HELLO) // self.length
+        return HELLO + self.length * number, number
+
+    def output(self, more=0):
+        return f'out 0 0 c {self.word(VALUE + more)}\n'
+
+
+NAMED_BYTES, SHORT_BYTES = Form(8, False), Form(8, True)
+FORMS = [NAMED_BYTES, Form(1, True), Form(5, True), SHORT_BYTES, Form(12, True), Form(64, True)]
+
+# One for each length of frames. In the hello, which is the same in all of them, each place is tried in two.
+LENGTHS = [form for form in FORMS if form.bits >= 8]
+
+OUTPUT = NAMED_BYTES.output()
+TWO_OUTPUTS = OUTPUT + 'out 1 0 c 6\n'
+
+
+class Job:
+    """The files of the product with some changes, with hosts of its own and frames of a form; and what is said in it."""
+
+    def __init__(self, number, changes=(), frames=(FRAMES,), form=NAMED_BYTES):
+        self.form, changes = form, [*form.changes(), *changes]
         self.hosts = [f'127.{NETWORK}.{place >> 8}.{place & 255}' for place in range(4 * number, 4 * number + 3)]
         self.changes, self.frames = list(changes), frames
 
@@ -113,8 +169,8 @@ class Job:
         parties = NAMES.index(sender), NAMES.index(receiver)
         said = b'MPC1' + bytes(parties) + self.digest()
         for session, frames in enumerate(self.frames):
-            for slot, share, word in frames.get(sender + receiver, []):
-                said += struct.pack('>BHIBBBQ', 1, session, slot, share, *parties, word)
+            for slot, share, number in frames.get(sender + receiver, []):
+                said += self.form.frame(session, slot, share, *parties, self.form.word(number))
         return said
 
     def address(self, sender, receiver):
@@ -156,13 +212,30 @@ def reset(link):
     link.close()
 
 
+def other_end(link):
+    """How the system's table tells the other end of a connection: its address and that of this end."""
+    return f'{written(link.getpeername())} {written(link.getsockname())} '
+
+
+def await_table(holds):
+    """Waits until a line of the system's table of connections is as it should be, or there is none."""
+    last = time.monotonic() + MOST_SECONDS
+    while time.monotonic() < last and not all(map(holds, pathlib.Path('/proc/net/tcp').read_text().splitlines())):
+        time.sleep(PAUSE)
+
+
 def hear_no_more(link):
     """Breaks a connection off, and waits until its other end has heard of it: what is said over another one comes later then."""
-    theirs = f'{written(link.getpeername())} {written(link.getsockname())} '
+    theirs = other_end(link)
     reset(link)
-    last = time.monotonic() + MOST_SECONDS
-    while theirs in pathlib.Path('/proc/net/tcp').read_text() and time.monotonic() < last:
-        time.sleep(PAUSE)
+    await_table(lambda line: theirs not in line)
+
+
+def say_no_more(link):
+    """Breaks a connection off once its other end has read all that was said: what it hasn't read the system drops with the connection."""
+    theirs = other_end(link)
+    await_table(lambda line: theirs not in line or f'{theirs}01 00000000:00000000' in line)
+    reset(link)
 
 
 def hear(link, count=None):
@@ -186,7 +259,7 @@ def say(links, peers):
                 elif turn == len(peer.pieces) and peer.then == ENDS:
                     links[name].shutdown(socket.SHUT_WR)
                 elif turn == len(peer.pieces) and peer.then == IS_RESET:
-                    reset(links[name])
+                    say_no_more(links[name])
         time.sleep(PAUSE)
 
 
@@ -268,69 +341,104 @@ def beside(job, odd, peer, piece):
     return {name: peer if name == odd else Peer(job.talk(name, 'c'), piece) for name in 'ab'}
 
 
-def said_where(at):
+def said_where(form, at):
     """How many bytes c says to each peer where one has no right frame at this place."""
-    return INPUTS if at >= INPUTS else HELLO
+    inputs = HELLO + INPUTS * form.length
+    return inputs if at >= inputs else HELLO
 
 
-def length_of(odd):
-    return HELLO + FRAME * len(FRAMES[odd + 'c'])
+def length_of(form, odd):
+    return HELLO + form.length * len(FRAMES[odd + 'c'])
+
+
+def places_of(form, odd):
+    """After how many bytes a peer ends or is reset."""
+    return range(0 if form.bits == 8 else HELLO, length_of(form, odd))
+
+
+def pieces_of(form):
+    """The lengths of pieces in which what is said in this form comes. Of short frames there are so many forms that two must do."""
+    return [1, PIECES[-1]] if form.short else PIECES
 
 
 def each_end_is_told(numbers):
-    for odd in 'ab':
-        for at in range(length_of(odd)):
-            for piece in PIECES:
-                job = Job(next(numbers))
-                peer = Peer(job.talk(odd, 'c')[:at], piece, ENDS)
-                yield stop(f'{odd} ends after {at} bytes in pieces of {piece}', job, beside(job, odd, peer, piece), f'fault closed peer={odd} at={at}\n', said_where(at))
+    for form, odd in itertools.product(LENGTHS, 'ab'):
+        for at, piece in itertools.product(places_of(form, odd), pieces_of(form)):
+            job = Job(next(numbers), form=form)
+            peer = Peer(job.talk(odd, 'c')[:at], piece, ENDS)
+            yield stop(f'{form}: {odd} ends after {at} bytes in pieces of {piece}', job, beside(job, odd, peer, piece), f'fault closed peer={odd} at={at}\n',
+                       said_where(form, at))
 
 
 def each_read_that_fails_is_told(numbers):
     """Where c meets the failure once it has read all that was said before it."""
-    for odd in 'ab':
-        for at in range(length_of(odd)):
-            for piece in [1, PIECES[-1]]:
-                job = Job(next(numbers))
-                peer = Peer(job.talk(odd, 'c')[:at], piece, IS_RESET)
-                yield stop(f'{odd} is reset after {at} bytes in pieces of {piece}', job, beside(job, odd, peer, piece), f'fault link peer={odd}\n', said_where(at))
+    for form, odd in itertools.product(LENGTHS, 'ab'):
+        for at, piece in itertools.product(places_of(form, odd), [1, PIECES[-1]]):
+            job = Job(next(numbers), form=form)
+            peer = Peer(job.talk(odd, 'c')[:at], piece, IS_RESET)
+            yield stop(f'{form}: {odd} is reset after {at} bytes in pieces of {piece}', job, beside(job, odd, peer, piece), f'fault link peer={odd}\n',
+                       said_where(form, at))
 
 
-def with_other_bit(talk, place):
-    """The talk with another lowest bit of the byte at a place."""
-    return talk[:place] + bytes([talk[place] ^ 1]) + talk[place + 1:]
+def with_other_bits(talk, place, bits=1):
+    """The talk with other bits of the byte at a place."""
+    return talk[:place] + bytes([talk[place] ^ bits]) + talk[place + 1:]
 
 
 def each_other_hello_is_told(numbers):
-    for odd in 'ab':
-        for place in range(HELLO):
-            for piece in PIECES:
-                job = Job(next(numbers))
-                talk = with_other_bit(job.talk(odd, 'c'), place)
-                line = f'fault job peer={odd} ours={job.talk(odd, "c")[:HELLO].hex()} theirs={talk[:HELLO].hex()}\n'
-                yield stop(f'{odd} says another byte {place}', job, beside(job, odd, Peer(talk, piece), piece), line, HELLO)
+    """A byte of the mark, of the parties or of the digest is another one."""
+    for form, odd in itertools.product([NAMED_BYTES, FORMS[-1]], 'ab'):
+        for place, piece in itertools.product(range(HELLO), pieces_of(form)):
+            job = Job(next(numbers), form=form)
+            talk = with_other_bits(job.talk(odd, 'c'), place)
+            line = f'fault job peer={odd} ours={job.talk(odd, "c")[:HELLO].hex()} theirs={talk[:HELLO].hex()}\n'
+            yield stop(f'{form}: {odd} says another byte {place}', job, beside(job, odd, Peer(talk, piece), piece), line, HELLO)
 
 
-def each_other_frame_is_told(numbers):
-    """But for the last byte of a frame, the lowest of its word."""
-    for odd in 'ab':
-        for place in range(HELLO, length_of(odd)):
-            at = place - (place - HELLO) % FRAME
-            for piece in PIECES if place < at + FRAME - 1 else []:
-                job = Job(next(numbers))
-                talk = with_other_bit(job.talk(odd, 'c'), place)
-                line = f'fault frame peer={odd} at={at} bytes={talk[at:at + FRAME].hex()}\n'
-                yield stop(f'{odd} says another byte {place}', job, beside(job, odd, Peer(talk, piece), piece), line, said_where(at))
+def the_other_form_is_told(numbers):
+    """A peer whose job differs in the form of frames alone has another digest."""
+    for form, odd in itertools.product([form for form in FORMS if form.short], 'ab'):
+        job, other = Job(next(numbers), form=form), Job(next(numbers), [Edit('job.toml', '"short"', '"named"')], form=form)
+        other.hosts = job.hosts
+        talk = other.talk(odd, 'c')
+        line = f'fault job peer={odd} ours={job.talk(odd, "c")[:HELLO].hex()} theirs={talk[:HELLO].hex()}\n'
+        yield stop(f'{form}: {odd} has named ones', job, beside(job, odd, Peer(talk), PIECES[-1]), line, HELLO)
 
 
-def each_other_word_is_taken(numbers):
-    for odd in 'ab':
-        for frame, (value, summand) in enumerate(OTHER_WORDS[odd]):
-            for piece in PIECES:
-                job = Job(next(numbers))
-                talk = with_other_bit(job.talk(odd, 'c'), HELLO + FRAME * frame + FRAME - 1)
-                heard = {name: job.talk('c', name)[:-1] + bytes([summand]) for name in 'ab'}
-                yield Case(f'{odd} says another word {frame}', job, 'c', beside(job, odd, Peer(talk, piece), piece), 0, f'out 0 0 c {value}\n', '', heard)
+def of_other_frame(job, odd, talk, place, piece):
+    """What is expected where the frame that a byte of the talk is in is another one. Where its name stays and its word is one of the ring, c takes it."""
+    form, right = job.form, job.talk(odd, 'c')
+    at, number = form.at(place)
+    frame, right = (said[at:at + form.length] for said in (talk, right))
+    word, wanted = (int.from_bytes(said[form.name:], 'big') for said in (frame, right))
+    title, peers = f'{form}: {odd} says {frame.hex()} for {right.hex()} in frame {number}', beside(job, odd, Peer(talk, piece), piece)
+    if frame[:form.name] != right[:form.name] or word >= 2**form.bits:
+        return stop(title, job, peers, f'fault frame peer={odd} at={at} bytes={frame.hex()}\n', said_where(form, at))
+    output, last = (each * (word - wanted) for each in ONE_MORE[odd][number])
+    summand = form.word(LAST + last).to_bytes(8, 'big')[form.name - form.length:]
+    heard = {name: job.talk('c', name)[:-len(summand)] + summand for name in 'ab'}
+    return Case(title, job, 'c', peers, 0, form.output(output), '', heard)
+
+
+def each_other_byte_is_told_or_taken(numbers):
+    """In its lowest bit, and in short frames also in its highest one."""
+    for form, odd in itertools.product(FORMS, 'ab'):
+        for place, bits in itertools.product(range(HELLO, length_of(form, odd)), [1, 128] if form.short else [1]):
+            for piece in pieces_of(form):
+                job = Job(next(numbers), form=form)
+                yield of_other_frame(job, odd, with_other_bits(job.talk(odd, 'c'), place, bits), place, piece)
+
+
+def each_word_past_the_ring_is_told(numbers):
+    """The least, the greatest, and some between, in each frame. In rings of 8 and of 64 bits a short frame has none, and c takes what is said."""
+    for form, odd in itertools.product([form for form in FORMS if form.short], 'ab'):
+        most = 256**form.length - 1
+        for number, word in itertools.product(range(len(FRAMES[odd + 'c'])), sorted({2**form.bits & most, 2**form.bits + 1 & most, 3 * 2**form.bits & most, most})):
+            job = Job(next(numbers), form=form)
+            place = HELLO + form.length * number
+            talk = job.talk(odd, 'c')
+            talk = talk[:place] + word.to_bytes(form.length, 'big') + talk[place + form.length:]
+            yield of_other_frame(job, odd, talk, place, PIECES[-1])
 
 
 def another_byte_is_told_in_full(numbers):
@@ -341,7 +449,7 @@ def another_byte_is_told_in_full(numbers):
         job = Job(next(numbers))
         talk = job.talk('a', 'c')
         peer = Peer(talk[:place] + bytes([byte]) + talk[place + 1:])
-        yield stop(f'a says {byte} at byte {place}', job, beside(job, 'a', peer, PIECES[-1]), line, said_where(place))
+        yield stop(f'a says {byte} at byte {place}', job, beside(job, 'a', peer, PIECES[-1]), line, said_where(NAMED_BYTES, place))
 
 
 # How many bytes a and b say, how they go on, whose hearing is reset and when; then what is told, and how many bytes a and b hear.
@@ -381,22 +489,31 @@ def whole(title, job, name, out, piece=PIECES[-1], then=STAYS, further=b'', **ot
 
 
 def each_node_says_its_whole_talk(numbers):
-    for name, out in [('a', ''), ('b', ''), ('c', OUTPUT)]:
-        for piece in PIECES:
-            yield whole(f'{name} hears all in pieces of {piece}', Job(next(numbers)), name, out, piece)
+    for form, name, piece in itertools.product(FORMS, NAMES, PIECES):
+        yield whole(f'{form}: {name} hears all in pieces of {piece}', Job(next(numbers), form=form), name, form.output() if name == 'c' else '', piece)
 
 
 def a_node_goes_through_two_sessions(numbers):
-    for piece in PIECES:
-        yield whole(f'two sessions in pieces of {piece}', Job(next(numbers), PRODUCTS_OF_TWO_SESSIONS, (FRAMES, SECOND_FRAMES)), 'c', TWO_OUTPUTS, piece)
+    for form, piece in itertools.product([NAMED_BYTES, SHORT_BYTES], PIECES):
+        job = Job(next(numbers), PRODUCTS_OF_TWO_SESSIONS, (FRAMES, SECOND_FRAMES), form)
+        yield whole(f'{form}: two sessions in pieces of {piece}', job, 'c', TWO_OUTPUTS, piece)
+
+
+def each_node_writes_its_own_view(numbers):
+    """Where the job says so: the words that it sent and got, behind its outputs."""
+    for form, name, piece in itertools.product([NAMED_BYTES, SHORT_BYTES], NAMES, PIECES):
+        version = [] if form.short else VERSION_2
+        job = Job(next(numbers), [*version, Edit('job.toml', '[[session]]\n', 'views = "own"\n[[session]]\n')], form=form)
+        yield whole(f'{form}: {name} writes its own view', job, name, f'{OUTPUT if name == "c" else ""}view {name}\n{lines_with(name)}', piece)
 
 
 def what_is_said_after_the_last_frame_is_left(numbers):
     """Another byte, an end or a failure."""
-    for then in [STAYS, ENDS, IS_RESET]:
-        yield whole(f'a byte more is said, and then the peer {then}', Job(next(numbers)), 'c', OUTPUT, then=then, further=b'\x01')
-    for then in [ENDS, IS_RESET]:
-        yield whole(f'all is said, and then the peer {then}', Job(next(numbers)), 'c', OUTPUT, then=then)
+    for form in FORMS:
+        for then in [STAYS, ENDS, IS_RESET]:
+            yield whole(f'{form}: a byte more is said, and then the peer {then}', Job(next(numbers), form=form), 'c', form.output(), then=then, further=b'\x01')
+        for then in [ENDS, IS_RESET]:
+            yield whole(f'{form}: all is said, and then the peer {then}', Job(next(numbers), form=form), 'c', form.output(), then=then)
 
 
 def no_other_file_is_read(numbers):
@@ -415,7 +532,7 @@ def a_short_line_has_the_first_bytes(numbers):
     for room in range(len(line) + 1):
         job = Job(next(numbers))
         peer = Peer(job.talk('a', 'c')[:81], then=ENDS)
-        yield stop(f'a line of {room} bytes', job, beside(job, 'a', peer, PIECES[-1]), line[:room], INPUTS)._replace(room=('stderr', room))
+        yield stop(f'a line of {room} bytes', job, beside(job, 'a', peer, PIECES[-1]), line[:room], said_where(NAMED_BYTES, 81))._replace(room=('stderr', room))
 
 
 # A long job, of which each byte of a frame but the highest of its session and slot is another one somewhere.
@@ -426,7 +543,6 @@ LONG_CIRCUIT = f'{GATES} {2 * INPUT_WORDS + GATES}\n2 {INPUT_WORDS} {INPUT_WORDS
     f'2 1 {wire - 1} {wire % (2 * INPUT_WORDS)} {wire} {"ADD" if wire % 3 else "SUB"}\n' for wire in range(2 * INPUT_WORDS, 2 * INPUT_WORDS + GATES))
 LONG_JOB = [
     Whole('mul.txt', LONG_CIRCUIT.encode()),
-    Edit('job.toml', 'ring_bits = 8', 'ring_bits = 64'),
     *PRODUCTS_OF_TWO_SESSIONS[:1],
     *PRODUCTS_OF_TWO_SESSIONS[-2:-1],
 ]
@@ -454,8 +570,8 @@ def long_output(session):
 def many_words_come_whole(numbers):
     """They come while the node is at work."""
     out = ''.join(f'out {session} 0 c {long_output(session)}\n' for session in (0, 1))
-    for piece in [*PIECES[1:], 1_000]:
-        yield whole(f'a long job in pieces of {piece}', Job(next(numbers), LONG_JOB, (long_frames(0), long_frames(1))), 'c', out, piece)
+    for form, piece in itertools.product([Form(64, False), Form(64, True)], [*PIECES[1:], 1_000]):
+        yield whole(f'{form}: a long job in pieces of {piece}', Job(next(numbers), LONG_JOB, (long_frames(0), long_frames(1)), form), 'c', out, piece)
 
 
 # Nodes without connections.
@@ -498,8 +614,9 @@ def each_net_that_fails_is_told(program, top, numbers):
 # Those of a limited output run one after another, since a limit is set between fork and exec.
 ALONE = [a_short_output_has_the_first_bytes, a_short_line_has_the_first_bytes]
 BESIDE = [each_node_says_its_whole_talk, a_node_goes_through_two_sessions, what_is_said_after_the_last_frame_is_left, no_other_file_is_read,
-          each_end_is_told, each_read_that_fails_is_told, each_other_hello_is_told, each_other_frame_is_told, each_other_word_is_taken,
-          another_byte_is_told_in_full, one_of_several_faults_is_told, many_words_come_whole]
+          each_node_writes_its_own_view, each_end_is_told, each_read_that_fails_is_told, each_other_hello_is_told, the_other_form_is_told,
+          each_other_byte_is_told_or_taken, each_word_past_the_ring_is_told, another_byte_is_told_in_full, one_of_several_faults_is_told,
+          many_words_come_whole]
 
 
 def tell(of, found):

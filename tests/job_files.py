@@ -1,7 +1,7 @@
-"""Files of jobs whose faults are told in order: of the top table, its versions, its fields, its sessions, hosts and ports."""
+"""Files of jobs whose faults are told in order: of the top table, its versions, its fields, its sessions, hosts, ports, frames and views."""
 
 from accepted_runs import COUNTS_OF_A_PRODUCT
-from product import CHECK, JOB, Row, Whole
+from product import CHECK, Edit, JOB, RUN, Row, VERSION_2, Whole
 
 TOP = 'version = 1\nring_bits = 8\nparties = ["a", "b", "c"]\nformula = "2 of (a, b, c)"\n'
 SESSION = '[[session]]\ncircuit = "mul.txt"\nlayout = "ring"\nowners = ["a", "b"]\nreaders = [["c"], []]\n'
@@ -118,6 +118,30 @@ HOSTS_AND_PORTS = [
     (TOP + 'port = 65393\n' + SESSION, 'job 14 BadPort port=65393'),
 ]
 
+# Frames and views are told in version 2 alone: their kinds behind that of the port, and their texts behind the port, frames first.
+FRAMES_AND_VIEWS = [
+    (TOP + 'frames = "named"\n' + SESSION, 'job 4 Unknown name=frames'),
+    (TOP + 'views = "none"\n' + SESSION, 'job 4 Unknown name=views'),
+    (TOLERATING + 'frame = "short"\nviews = "own"\n' + SESSION, 'job 4 Unknown name=frame'),
+    (TOLERATING + 'views = 1\nframes = 1\nport = "x"\n', 'job 5 WrongKind field=port'),
+    (TOLERATING + 'views = 1\nframes = 1\nport = 4000\n', 'job 5 WrongKind field=frames'),
+    (TOLERATING + 'frames = ["short"]\n', 'job 5 WrongKind field=frames'),
+    (TOLERATING + 'frames = "long"\nviews = true\n', 'job 5 WrongKind field=views'),
+    (TOLERATING + 'views = ["own"]\nsession = 1\n', 'job 5 WrongKind field=views'),
+    (TOLERATING + 'frames = "long"\nviews = "all"\n', 'job 3 Missing field=session'),
+    (TOLERATING + 'frames = "long"\nviews = "all"\nsession = 1\n', 'job 5 WrongKind field=session'),
+    (TOLERATING + 'frames = "long"\nviews = "all"\n' + SESSION + '[[session]]\n', 'job 3 Missing session=1 field=circuit'),
+    (TOLERATING + 'frames = "long"\nviews = "all"\n' + BAD_HOSTS + SESSION, 'job 13 BadHost at=2'),
+    (TOLERATING + 'frames = "long"\nviews = "all"\nport = 0\n' + SESSION, 'job 14 BadPort port=0'),
+    (TOLERATING + 'views = "all"\nframes = "long"\nport = 4000\n' + SESSION, 'job 19 BadFrames'),
+    (TOLERATING + 'views = "own"\nframes = "own"\n' + SESSION, 'job 19 BadFrames'),
+    (TOLERATING + 'views = "short"\nframes = "short"\n' + SESSION, 'job 20 BadViews'),
+    *((TOLERATING + f'frames = "{text}"\n' + SESSION, 'job 19 BadFrames')
+      for text in ['', 'Short', 'SHORT', 'shor', 'shorts', ' short', 'short ', 'Named', 'name', 'names', 'none', 'named\\u0000']),
+    *((TOLERATING + f'views = "{text}"\n' + SESSION, 'job 20 BadViews')
+      for text in ['', 'Own', 'OWN', 'ow', 'owns', ' own', 'own ', 'None', 'non', 'nones', 'named', 'all', 'own\\u0000']),
+]
+
 FIELDS_OF_VERSIONS = [
     (LISTED + 'tolerated = []\nformula = "a"\n' + NO_SESSION, 'job 4 Unknown name=formula'),
     (TOP + 'tolerated = []\n' + SESSION, 'job 4 Unknown name=tolerated'),
@@ -141,10 +165,16 @@ def refused(words, text, fault):
 
 JOB_FILES = [
     *(refused(CHECK, text, fault) for table in [VERSIONS, UNKNOWN_FIELDS, TOP_FIELDS, BITS_AND_NAMES, SESSION_FIELDS, SESSION_VALUES, PRODUCTS,
-                                                CARRIES, HOSTS_AND_PORTS, FIELDS_OF_VERSIONS, TOLERATED_GROUPS] for text, fault in table),
+                                                CARRIES, HOSTS_AND_PORTS, FRAMES_AND_VIEWS, FIELDS_OF_VERSIONS, TOLERATED_GROUPS] for text, fault in table),
     Row('a_byte_of_no_text_in_a_job', CHECK, [Whole('job.toml', b"version = '\xff'")], status=3, err='refused job 1 NotToml\n'),
     Row('texts_in_single_quotes', CHECK, [Whole('job.toml', JOB.replace('"', "'").encode())], out=COUNTS_OF_A_PRODUCT),
     # A node wants hosts and a port.
     *(refused(['node', 'd', 'a'], TOP + places + SESSION, f'job 3 Missing field={field}')
       for places, field in [('', 'hosts'), ('port = 4000\n', 'hosts'), ('hosts = ["x", "y", "z"]\n', 'port')]),
+    # Each text, and none, changes nothing of what is not between nodes.
+    *(Row(f'{words[0]}_with_{" and ".join(texts)}', words, [*VERSION_2, Edit('job.toml', '[[session]]\n', '\n'.join([*texts, '[[session]]\n']))], out=out)
+      for frames in [[], ['frames = "named"'], ['frames = "short"']] for views in [[], ['views = "none"'], ['views = "own"']] for texts in [frames + views]
+      for words, out in [(CHECK, COUNTS_OF_A_PRODUCT), (RUN, 'out 0 0 c 35\n')]),
+    # A node wants hosts and a port before it looks at them.
+    refused(['node', 'd', 'a'], TOLERATING + 'frames = 1\n' + SESSION, 'job 3 Missing field=hosts'),
 ]

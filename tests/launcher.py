@@ -6,6 +6,7 @@ where a stopped build was, and build anew where a source is newer than the progr
 it does otherwise.
 """
 
+import concurrent.futures
 import os
 import pathlib
 import shutil
@@ -30,6 +31,9 @@ CRATES = ('# What the program stands on, and what it does not\n'
           'only_tests: upper\n'
           'mpc_main: low_two upper\n')
 BUILT = ['low_one', 'low_two', 'mpc_main', 'upper']
+
+# So many calls run at once.
+AT_ONCE = 8
 
 # A program that tells the words that it got, each between brackets, and ends with a status of its own.
 PROGRAM = '#!/bin/sh\nprintf "[%s]" "$@"\nexit 7\n'
@@ -132,8 +136,9 @@ def check_words(repository):
     """Where nothing is built and there is no rt, exactly the words that the program refuses are answered with the usage."""
     more = f'more: {repository.top}/README.md\n'
     rows = {tuple(row.words): row.status == 2 for group in GROUPS.values() for row in group}
-    for words, is_refused in rows.items():
-        found = repository.call(*words)
+    with concurrent.futures.ThreadPoolExecutor(AT_ONCE) as pool:
+        answers = list(pool.map(lambda words: repository.call(*words), rows))
+    for (words, is_refused), found in zip(rows.items(), answers):
         wanted = (2, '', USAGE + more) if is_refused else (127, '', found[2])
         repository.expect(found == wanted, f'the words {words} gave {found}')
     for words in (['-h'], ['--help']):

@@ -2,9 +2,11 @@
 """Runs the nodes of all parties of a job beside one another, over pipes in memory: networks.py PIPE_NODES
 
 The nodes of each accepted small job and of each example must write what its circuits come to in the clear, and those of random expressions
-what Python comes to, and so must the nodes of their circuits. Of three nodes, where one has another job, can't send to another, or is heard
-wrong, all must end, with a line each. A node that hears nothing of its first peer before the second one has said all must still end well.
+what Python comes to, and so must the nodes of their circuits. Of three nodes, where one has another job, can't send to another after any byte, or
+is heard wrong, all must end, with a line each. A node that hears nothing of its first peer before the second one has said all must still end well.
 Ends with status 1, and tells why, where nodes end otherwise.
+
+The jobs are run over named and over short frames.
 """
 
 import hashlib
@@ -16,19 +18,26 @@ import re
 import subprocess
 import sys
 import tempfile
-
-from accepted_runs import ACCEPTED
-from carried_runs import CARRIED_RUNS
-from expressions import EXPR, EXPRESSIONS, SQUARE_OF_A_SUM
-from in_the_clear import fields, out_in_the_clear
-from prepared_runs import PREPARED_RUNS
-from product import Edit, Whole, product_with
-from random_expressions import random_job, with_circuits
-from tolerated_runs import TOLERATED
-from waits import MOST_SECONDS, told
-from wide_ring_runs import WIDE_RINGS
+import tomllib
 
 EXAMPLES = pathlib.Path(__file__).resolve().parent.parent / 'examples'
+sys.path[1:1] = [str(EXAMPLES), str(EXAMPLES / 'network')]
+
+from accepted_runs import ACCEPTED  # noqa: E402
+from carried_runs import CARRIED_RUNS  # noqa: E402
+from expressions import EXPR, EXPRESSIONS, SQUARE_OF_A_SUM  # noqa: E402
+from in_the_clear import fields, out_in_the_clear  # noqa: E402
+from prepared_runs import PREPARED_RUNS  # noqa: E402
+from product import Edit, Whole, product_with  # noqa: E402
+from random_expressions import random_job, with_circuits  # noqa: E402
+from tolerated_runs import TOLERATED  # noqa: E402
+from views import lines_with  # noqa: E402
+from waits import MOST_SECONDS, told  # noqa: E402
+from wide_ring_runs import WIDE_RINGS  # noqa: E402
+# (scripts of examples/)
+from job_folder import job_text  # noqa: E402
+from nodes import in_version_2  # noqa: E402
+
 RANDOM_JOBS = 30
 
 # Room for what a node of 'pipe_nodes' writes.
@@ -50,6 +59,16 @@ def with_places(files):
         return files
     places = 'hosts = [' + len(top['parties']) * '"host", ' + ']\nport = 4000\n[[session]]\n'
     return {**files, 'job.toml': files['job.toml'].replace(b'[[session]]\n', places.encode(), 1)}
+
+
+def with_fields(files, **further):
+    """The files with these further fields in the job, which is one of version 2 then."""
+    return {**files, 'job.toml': job_text({**in_version_2(tomllib.loads(files['job.toml'].decode())), **further}).encode()}
+
+
+def of_both_forms(files):
+    """The files with named frames and with short ones."""
+    return [with_fields(files, frames='named') if b'frames' in files['job.toml'] else files, with_fields(files, frames='short')]
 
 
 def write_nodes(top, files, odd=None, other_files=None):
@@ -107,7 +126,8 @@ def expect_faults(ended, begins):
 def accepted_jobs(program):
     for row in [*ACCEPTED, *WIDE_RINGS, *TOLERATED, *PREPARED_RUNS, *CARRIED_RUNS, *EXPRESSIONS]:
         if row.out.startswith('out ') and '--view' not in row.words and len(row.out) <= MOST_WRITTEN:
-            expect_written(row.files(), run(program, row.files()))
+            for files in of_both_forms(row.files()):
+                expect_written(files, run(program, files))
 
 
 def random_expressions(program):
@@ -115,14 +135,26 @@ def random_expressions(program):
         files, out = random_job(random.Random(number))
         if out_in_the_clear(files) != out:
             raise Wrong(f'in the clear job {number} writes {out_in_the_clear(files)} in place of {out}')
-        expect_written(files, run(program, files))
+        for its_files in of_both_forms(files):
+            expect_written(its_files, run(program, its_files))
         expect_written(files, run(program, with_circuits(files)))
 
 
 def examples(program):
     for expected in sorted(EXAMPLES.glob('*/expected')):
-        files = {file.name: file.read_bytes() for file in expected.parent.iterdir() if file.is_file()}
-        expect_written(files, run(program, files))
+        its_files = {file.name: file.read_bytes() for file in expected.parent.iterdir() if file.is_file()}
+        for files in of_both_forms(its_files):
+            files = with_fields(files, views='none') if b'views' in files['job.toml'] else files
+            expect_written(files, run(program, files))
+
+
+def views_of_their_own(program):
+    """What each node of the product sent and got stands behind its outputs, where the job says so."""
+    for files in of_both_forms(product_with([])):
+        found = run(program, with_fields(files, views='own'))
+        expected = [(name, 0, f'{"out 0 0 c 35" + chr(10) if name == "c" else ""}view {name}\n{lines_with(name)}', '') for name in 'abc']
+        if found != expected:
+            raise Wrong(f'{found}')
 
 
 # Changes that leave the job the same but for its digest, and the line of c where c alone has them. The digests are as `sha256sum` gives them
@@ -163,19 +195,33 @@ def one_with_other_blanks_in_its_expressions(program):
     expect_faults(run(program, files, odd=2, other_files=other), ['fault ', 'fault ', line])
 
 
-# After how many bytes from a to c the pipe fails, and how the lines of a, b and c begin. The bytes are a hello of 38, and then frames of 18,
-# of which a sends the first one to b before that to c. Where it fails within the hello, a reads nothing, so a send to it may fail.
-CUTS = [
-    (0, ['fault link peer=c\n', 'fault ', 'fault ']),
-    (37, ['fault link peer=c\n', 'fault ', 'fault ']),
-    (38, ['fault link peer=c\n', 'fault closed peer=a at=56\n', 'fault closed peer=a at=38\n']),
-    (73, ['fault link peer=c\n', 'fault closed peer=a at=56\n', 'fault closed peer=a at=73\n']),
-]
+HELLO = 38
+
+# To whom a sends its frames, one after another; and how many bytes a frame of the product has in each form.
+RECEIVERS = 'bccbbccbc'
+LENGTHS = [18, 1]
+
+
+def lines_of_a_cut(count, length):
+    """How the lines of a, b and c begin where the pipe from a to c fails after so many bytes. Where it fails within the hello, a reads nothing, so a send
+    to it may fail. Else b hears all that a sent to it before, and c all that came through."""
+    if count < HELLO:
+        return ['fault link peer=c\n', 'fault ', 'fault ']
+    failed = [place for place, name in enumerate(RECEIVERS) if name == 'c'][(count - HELLO) // length]
+    return ['fault link peer=c\n', f'fault closed peer=a at={HELLO + length * RECEIVERS[:failed].count("b")}\n', f'fault closed peer=a at={count}\n']
 
 
 def one_that_can_not_send(program):
-    for count, begins in CUTS:
-        expect_faults(run(program, product_with([]), flaw=('fails', count, 0, 2)), begins)
+    """After any byte. Before its last frame to c it has said all to b, which ends well where it is that frame that fails."""
+    for files, length in zip(of_both_forms(product_with([])), LENGTHS):
+        last = HELLO + length * (RECEIVERS.count('c') - 1)
+        for count in range(last):
+            expect_faults(run(program, files, flaw=('fails', count, 0, 2)), lines_of_a_cut(count, length))
+        for count in range(last, last + length):
+            a, b, c = run(program, files, flaw=('fails', count, 0, 2))
+            if (a, b, c) != (('a', 5, '', 'fault link peer=c\n'), ('b', 0, '', ''), ('c', 5, '', f'fault closed peer=a at={count}\n')):
+                raise Wrong(f'{count} bytes in frames of {length}: {a} {b} {c}')
+        expect_written(files, run(program, files, flaw=('fails', last + length, 0, 2)))
 
 
 # The changes that make of the product a sum of the first of five words of a and one of b: more frames from a to c than a pipe has room for,
@@ -197,17 +243,17 @@ def one_that_hears_another_frame(program):
     expect_faults(ended, ['fault link peer=c\n', 'fault closed peer=a at=', OTHER_FRAME])
 
 
-# How many bytes b says to c: a hello of 38, and four frames of 18.
-SAID_BY_B = 110
+# How many frames b says to c.
+SAID_BY_B = 4
 
 
 def one_that_hears_its_second_peer_first(program):
     """So a node hears its peers at once. The pipes have room for all that a says, which goes on without c."""
-    files = product_with([])
-    expect_written(files, run(program, files, room=LARGE, flaw=('held', SAID_BY_B, 0, 2)))
+    for files, length in zip(of_both_forms(product_with([])), LENGTHS):
+        expect_written(files, run(program, files, room=LARGE, flaw=('held', HELLO + SAID_BY_B * length, 0, 2)))
 
 
-CASES = [accepted_jobs, random_expressions, examples, one_with_another_job, one_with_other_blanks_in_its_expressions, one_that_can_not_send,
+CASES = [accepted_jobs, random_expressions, examples, views_of_their_own, one_with_another_job, one_with_other_blanks_in_its_expressions, one_that_can_not_send,
          one_that_hears_another_frame, one_that_hears_its_second_peer_first]
 
 

@@ -50,6 +50,7 @@ REFUSED = [
     ['node', 'd'],
     ['node', 'd', '-a'],
     ['node', 'd', 'a', 'b'],
+    ['node', 'd', 'a', '--view'],
     ['node', 'd', 'a', '--view', 'a'],
     ['node', 'd', '--view', 'a'],
     ['node', 'd', '--view'],
@@ -72,5 +73,4 @@ OTHER_WORDS = [
     *(Row(f'{count}_workers', ['run', 'd', '--workers', count], out='out 0 0 c 35\n') for count in ['1', '16', '05', 30 * '0' + '2']),
     Row('workers_and_a_view_of_none', ['run', 'd', '--workers', '3', '--view', '0'], out='out 0 0 c 35\nview 0\n'),
     Row('a_node_of_nobody', ['node', 'd', 'anna'], PLACES, status=3, err='refused name 1 UnknownParty\n'),
-    Row('the_view_of_a_node_of_nobody', ['node', 'd', 'anna', '--view'], PLACES, status=3, err='refused name 1 UnknownParty\n'),
 ]

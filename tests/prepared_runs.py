@@ -1,12 +1,11 @@
 """Jobs whose products are prepared. The words of messages are computed apart from the program, by the rules of docs/PROTOCOL.md."""
 
 from pairs import FROM_C, OTHER_FACTORS
-from product import CHECK, Edit, RUN, Row, SEED, SESSION, TAPE_A, TAPE_B, Whole
+from product import CHECK, Edit, RUN, Row, SEED, SESSION, TAPE_A, TAPE_B, VERSION_2, Whole
 
 # The product of 5 and 7, prepared, in a job of version 2.
 PREPARED = [
-    Edit('job.toml', 'version = 1', 'version = 2'),
-    Edit('job.toml', 'formula = "2 of (a, b, c)"', 'tolerated = [["a"], ["b"], ["c"]]'),
+    *VERSION_2,
     Edit('job.toml', 'layout = "ring"', 'layout = "ring"\nproducts = "prepared"'),
     Edit('party_a.toml', TAPE_A, 'tape = "2 3 4 6 1 2 10 20"'),
     Edit('party_b.toml', TAPE_B, 'tape = "1 5 3 4 30 40"'),
@@ -14,8 +13,7 @@ PREPARED = [
 
 # Beside it, and before it, the product of the first job, which is dealt itself.
 DIRECT_AND_PREPARED = [
-    Edit('job.toml', 'version = 1', 'version = 2'),
-    Edit('job.toml', 'formula = "2 of (a, b, c)"', 'tolerated = [["a"], ["b"], ["c"]]'),
+    *VERSION_2,
     Edit('job.toml', SESSION, SESSION + SESSION.replace('layout = "ring"', 'layout = "ring"\nproducts = "prepared"')),
     Edit('party_a.toml', '["5"]', '["5", "2"]'),
     Edit('party_a.toml', '10 20 1 2', '10 20 1 2 11 12 13 14 15 16 17 18'),

@@ -62,6 +62,13 @@ class Whole:
         files[self.name] = self.data
 
 
+# The changes that bring the product's job into version 2, with the same groups that must learn nothing.
+VERSION_2 = [
+    Edit('job.toml', 'version = 1', 'version = 2'),
+    Edit('job.toml', 'formula = "2 of (a, b, c)"', 'tolerated = [["a"], ["b"], ["c"]]'),
+]
+
+
 class Without:
     """There is no such file."""
 

@@ -3,16 +3,16 @@
 
 Two nodes and a party that goes one slot after another end a job together, each with its outputs. A node whose peer stops after any byte of what it
 says has said a first part of what it is to say, and all that stands before the first word that it then waits for: the posts of a whole batch of
-slots, and those of the batches before. So three products that need not wait for one another are posted before a word of the first is there. Ends
-with status 1, and tells why, where a node does otherwise.
+slots, and those of the batches before. So three products that need not wait for one another are posted before a word of the first is there. Both
+hold of named and of short frames. Ends with status 1, and tells why, where a node does otherwise.
 """
 
 import contextlib
+import itertools
 import os
 import pathlib
 import re
 import socket
-import struct
 import subprocess
 import sys
 import tempfile
@@ -24,14 +24,15 @@ from by_layers import read_circuit  # noqa: E402
 from peers import Peers  # noqa: E402
 from waits import MOST_SECONDS, told  # noqa: E402
 
-HELLO, FRAME = 38, 18
+HELLO = 38
+FORMS = ['named', 'short']
 
 # Three products that need none of one another, one that needs two of them, and a sum that needs it: the batches begin in slots 0, 3, 6 and 7.
 CIRCUIT = '5 8\n3 1 1 1\n1 1\n2 1 0 1 3 MUL\n2 1 1 2 4 MUL\n2 1 0 2 5 MUL\n2 1 3 4 6 MUL\n2 1 5 6 7 ADD\n'
-JOB = '''version = 1
+JOB = '''version = 2
 ring_bits = 16
 parties = ["a", "b", "c"]
-formula = "2 of (a, b, c)"
+tolerated = [["a"], ["b"], ["c"]]
 [[session]]
 circuit = "circuit.txt"
 layout = "ring"
@@ -59,9 +60,18 @@ def write_job(folder):
     return folder
 
 
-def split(job, folder):
-    """Writes a folder for each party, with ports that are free here."""
-    return nodes.split(job, folder, [nodes.HERE] * 3, nodes.free_port(3), replace=True)
+def split(job, folder, form):
+    """Writes a folder for each party, with ports that are free here and frames of this form."""
+    return nodes.split(job, folder, [nodes.HERE] * 3, nodes.free_port(3), True, {'frames': form})
+
+
+def join(folder, names, whole):
+    """Writes a folder with the files of all parties."""
+    os.mkdir(whole)
+    for name in names:
+        for file in os.listdir(os.path.join(folder, name)):
+            pathlib.Path(whole, file).write_bytes(pathlib.Path(folder, name, file).read_bytes())
+    return whole
 
 
 def lines_of(program, job, name):
@@ -94,12 +104,12 @@ def go_slot_by_slot(program, folder, job, name):
             links[peer] = stack.enter_context(listeners[peer].accept()[0])
             links[peer].settimeout(MOST_SECONDS)
             expect(read_exactly(links[peer], HELLO) == party.talk(peer, party.me)[:HELLO], f'{party.names[peer]} says another hello')
-        for session, slot, share, sender, receiver, word in by_slots(party.messages, name):
-            frame = struct.pack('>BHIBBBQ', 1, int(session), int(slot), int(share), party.names.index(sender), party.names.index(receiver), int(word))
+        for message in by_slots(party.messages, name):
+            frame, (_, slot, _, sender, receiver, _) = party.frame(*message), message
             if sender == name != receiver:
                 says[party.names.index(receiver)].sendall(frame)
             elif sender != name:
-                expect(read_exactly(links[party.names.index(sender)], FRAME) == frame, f'{sender} says another frame in slot {slot}')
+                expect(read_exactly(links[party.names.index(sender)], len(frame)) == frame, f'{sender} says another frame in slot {slot}')
 
 
 def by_slots(messages, name):
@@ -117,20 +127,15 @@ def connected(place):
     raise Wrong(f'nobody listens at {place}')
 
 
-def parties_of_both_orders(program, top, job):
+def parties_of_both_orders(program, top, job, form):
     """Two nodes and a party of the other order end together."""
-    folder = os.path.join(top, 'split')
-    names = split(job, folder)
+    folder = os.path.join(top, f'split_{form}')
+    names = split(job, folder, form)
     slow = names[-1]
     running = {name: subprocess.Popen([program, 'node', os.path.join(folder, name), name], stdin=subprocess.DEVNULL, stdout=subprocess.PIPE,
                                       stderr=subprocess.PIPE, text=True) for name in names[:-1]}
     try:
-        whole = os.path.join(top, 'whole')
-        os.mkdir(whole)
-        for name in names:
-            for file in os.listdir(os.path.join(folder, name)):
-                pathlib.Path(whole, file).write_bytes(pathlib.Path(folder, name, file).read_bytes())
-        go_slot_by_slot(program, folder, whole, slow)
+        go_slot_by_slot(program, folder, join(folder, names, os.path.join(top, f'whole_{form}')), slow)
         for name, node in running.items():
             out, err = node.communicate(timeout=MOST_SECONDS)
             expect(node.returncode == 0 and out == lines_of(program, job, name), f'{name} ended with status {node.returncode}: {err or out}')
@@ -170,29 +175,25 @@ class CutPeers(Peers):
 
     def least(self, peer, batches):
         """How many bytes the party must have said to a peer: its hello, and each message of a batch before whose end no word is missing."""
-        held = (self.count - HELLO) // FRAME if self.count >= HELLO else 0
+        held = (self.count - HELLO) // self.frame_bytes if self.count >= HELLO else 0
         missing = [int(message[1]) for message in self.messages if message[3:5] == [self.names[self.odd], self.names[self.me]]][max(held, 0):]
         last = batches[missing[0]] if missing else len(batches)
         mine = [message for message in self.messages if message[3:5] == [self.names[self.me], self.names[peer]] and batches[int(message[1])] <= last]
-        return HELLO + FRAME * len(mine)
+        return HELLO + self.frame_bytes * len(mine)
 
 
-def nodes_are_cut(program, top, job):
+def nodes_are_cut(program, top, job, form):
     """What a node has said whose peer stops after any byte."""
-    folder = os.path.join(top, 'cut')
-    names = split(job, folder)
-    whole = os.path.join(top, 'all')
-    os.mkdir(whole)
-    for name in names:
-        for file in os.listdir(os.path.join(folder, name)):
-            pathlib.Path(whole, file).write_bytes(pathlib.Path(folder, name, file).read_bytes())
+    folder = os.path.join(top, f'cut_{form}')
+    names = split(job, folder, form)
+    whole = join(folder, names, os.path.join(top, f'all_{form}'))
     batches, runs = batch_of_slots(job), 0
     for odd in (1, 2):
         length = len(Peers(program, whole, 'a').talk(odd, 0))
         for count in range(length):
             with CutPeers(program, whole, 'a', odd, count) as peers:
                 done = subprocess.run([program, 'node', os.path.join(folder, 'a'), 'a'], stdin=subprocess.DEVNULL, capture_output=True, text=True, timeout=MOST_SECONDS)
-            at = f'{names[odd]} stops after {count} bytes'
+            at = f'{form} frames: {names[odd]} stops after {count} bytes'
             expect(done.returncode == 5 and not done.stdout and re.fullmatch(f'fault closed peer={names[odd]} at={count}\n', done.stderr), f'{at}: {done}')
             for peer in peers.others:
                 heard, due = peers.heard[peer], peers.due[peer]
@@ -212,11 +213,12 @@ def main(words):
         with tempfile.TemporaryDirectory() as top:
             job = write_job(os.path.join(top, 'job'))
             expect(batch_of_slots(job) == [0, 0, 0, 3, 3, 3, 6, 7, 7], f'other batches: {batch_of_slots(job)}')
-            runs = nodes_are_cut(program, top, job)
-            parties_of_both_orders(program, top, job)
-        for example in ['network', 'prepared/mixed', 'running_total']:
+            runs = sum(nodes_are_cut(program, top, job, form) for form in FORMS)
+            for form in FORMS:
+                parties_of_both_orders(program, top, job, form)
+        for example, form in itertools.product(['network', 'prepared/mixed', 'running_total'], FORMS):
             with tempfile.TemporaryDirectory() as top:
-                parties_of_both_orders(program, top, str(TOP / 'examples' / example))
+                parties_of_both_orders(program, top, str(TOP / 'examples' / example), form)
     except (Wrong, OSError, subprocess.SubprocessError) as wrong:
         print(f'rounds: NOT AS EXPECTED: {wrong}')
         return 1

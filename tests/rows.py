@@ -18,6 +18,7 @@ from audits import AUDITS, FAULTY_VIEWS
 from carried_runs import CARRIED_AUDITS, CARRIED_FAULTS, CARRIED_PAIRS, CARRIED_RUNS, CARRIED_WIDTHS
 from circuit_faults import CIRCUIT_FAULTS
 from circuit_files import CIRCUIT_FILES
+from command_forms import COMMAND_FORMS
 from expressions import EXPRESSIONS, FAULTY_EXPRESSIONS
 from formulas import FORMULAS
 from in_the_clear import out_in_the_clear
@@ -47,6 +48,7 @@ GROUPS = {
     'carried pairs and audits': [*CARRIED_PAIRS, *CARRIED_AUDITS],
     'faults of what is carried': CARRIED_FAULTS,
     'words': OTHER_WORDS,
+    'forms of commands': COMMAND_FORMS,
     'jobs': [*JOB_FAULTS, *JOB_FILES],
     'formulas': FORMULAS,
     'circuits': [*CIRCUIT_FAULTS, *CIRCUIT_FILES],

@@ -10,12 +10,14 @@ import collections
 import concurrent.futures
 import contextlib
 import hashlib
+import itertools
 import os
 import pathlib
 import random
 import re
 import shutil
 import socket
+import ssl
 import subprocess
 import sys
 import tempfile
@@ -33,11 +35,13 @@ from expressions import EXPRESSIONS, FAULTY_EXPRESSIONS  # noqa: E402
 from in_the_clear import circuit_of, fields as fields_of, last_wires, out_in_the_clear  # noqa: E402
 from mutate import CHANGES  # noqa: E402
 from odd_folders import ODD_FOLDERS  # noqa: E402
-from product import product_with  # noqa: E402
+from product import SESSION, product_with  # noqa: E402
 from random_expressions import SCRIPT, with_circuits  # noqa: E402
+from views import lines_with  # noqa: E402
 from waits import MOST_SECONDS, told  # noqa: E402
 # (it puts the scripts of examples/ before those of this folder)
 import nodes  # noqa: E402
+import secured  # noqa: E402
 import job_counts  # noqa: E402
 import pictures  # noqa: E402
 import summands  # noqa: E402
@@ -412,6 +416,39 @@ def programs_that_are_not_there(program, top):
     code = f"import sys; sys.path.append('{TOP}/tests'); import waits; sys.exit(waits.told(lambda words: print('x' * 2**20)))"
     done = subprocess.run(f'{sys.executable} -B -c "{code}" | head -c 1', shell=True, capture_output=True, timeout=MOST_SECONDS)
     expect(done.stdout == b'x' and not done.stderr, f'{done}')
+
+
+# Calls the gate's script with a limit of a second.
+LATE_SCRIPT = ('import sys, runpy; sys.path.insert(0, sys.argv[1]); import waits; waits.MOST_SECONDS = 1; '
+               'runpy.run_path(sys.argv[2], run_name="__main__")')
+
+# An rt that says what the file says, or never ends.
+SLOW_RT = '#!/bin/sh\n[ ! -e "$FAKE/said" ] || exec cat "$FAKE/said"\nsleep 100 &\necho $! > "$FAKE/sleeper"\nwait\n'
+
+
+def programs_that_are_late(program, top):
+    """Each is told in one line, and is ended with what it started; so is the check of the gate that tries what must not compile."""
+    code = f"import subprocess, sys; sys.path.append('{TOP}/tests'); import waits; sys.exit(waits.told(lambda _: waits.ended(subprocess.Popen(['sleep', '100']), 1)))"
+    done = subprocess.run([sys.executable, '-B', '-c', code], capture_output=True, text=True, timeout=MOST_SECONDS)
+    expect((done.returncode, done.stdout, done.stderr) == (1, '', '-c: sleep 100 had not ended after 1 seconds\n'), f'{done}')
+    fake, script = pathlib.Path(top, 'rt'), TOP / '.ci/must-not-compile'
+    fake.write_text(SLOW_RT)
+    fake.chmod(0o755)
+
+    def tried():
+        words = [sys.executable, '-B', '-c', LATE_SCRIPT, TOP / 'tests', script]
+        return subprocess.run(words, capture_output=True, text=True, timeout=MOST_SECONDS, env={**os.environ, 'PATH': f'{top}:{os.environ["PATH"]}', 'FAKE': top})
+    done = tried()
+    expect(done.returncode == 1 and not done.stdout and done.stderr.endswith(': rt check had not ended after 1 seconds\n') and done.stderr.count('\n') == 1, f'{done}')
+    sleeper = pathlib.Path('/proc', pathlib.Path(top, 'sleeper').read_text().strip(), 'cmdline')
+    expect(not sleeper.exists() or not sleeper.read_bytes(), 'what rt started goes on')
+    edits = sorted((TOP / 'crates/tape_words/must-not-compile').glob('*.edit'))
+    errors = [re.search('(?m)^error: (.*)$', edit.read_text())[1] for edit in edits]
+    pathlib.Path(top, 'said').write_text(''.join(f'error[{error}]: no\n' for error in errors))
+    wanted = ''.join(f'must-not-compile: {edit.name} is refused with {error}\n' for edit, error in zip(edits, errors))
+    expect(((done := tried()).returncode, done.stdout, done.stderr) == (0, wanted, ''), f'{done}')
+    pathlib.Path(top, 'said').write_text('proved\n')
+    expect((done := tried()).returncode == 1 and done.stdout.count(' is NOT refused with ') == len(edits) > 0, f'{done}')
 
 
 # Folders.
@@ -812,6 +849,88 @@ def nodes_are_split(program, top):
     expect_one_line(call(NODES, 'run', folder, os.path.join(top, 'none')), 'no program', 'nodes.py: ')
 
 
+# The product's job with the hosts and the port that stand in the test, short frames and views of nodes.
+JOB_OF_OPTIONS = ('version = 2\nring_bits = 8\nparties = ["a", "b", "c"]\ntolerated = [["a"], ["b"], ["c"]]\nhosts = ["h", "i", "j"]\nport = 4000\n'
+                  'frames = "short"\nviews = "own"\n' + SESSION)
+
+
+def frames_and_views_are_options(program, top):
+    """Of a split and of a run: they bring the job into version 2, with the same groups that must learn nothing."""
+    folder, target = write_folder(top, product_with([])), os.path.join(top, 'nodes')
+    hosts = ['--hosts', 'h,i,j', '--port', '4000']
+    wrote(NODES, 'split', folder, target, *hosts, '--frames', 'short', '--views', 'own')
+    for name in 'abc':
+        expect(pathlib.Path(target, name, 'job.toml').read_text() == JOB_OF_OPTIONS, pathlib.Path(target, name, 'job.toml').read_text())
+    views = ''.join(f'{"out 0 0 c 35" + chr(10) if name == "c" else ""}view {name}\n{lines_with(name)}' for name in 'abc')
+    for words, wanted in [(['--views', 'own', '--frames', 'short'], views), (['--views', 'own'], views), (['--frames', 'short'], 'out 0 0 c 35\n'),
+                          (['--frames', 'named', '--views', 'none'], 'out 0 0 c 35\n')]:
+        found = wrote(NODES, 'run', folder, program, *words)
+        expect(found == wanted, f'{words}: {found}')
+    for words in [['--frames', 'long'], ['--views', 'all'], ['--frames', '']]:
+        expect_one_line(call(NODES, 'split', folder, os.path.join(top, 'none'), *hosts, *words), f'split {words}', 'nodes.py: --')
+        expect_one_line(call(NODES, 'run', folder, program, *words), f'run {words}', 'nodes.py: --')
+    expect(not os.path.exists(os.path.join(top, 'none')), 'a refused split left a folder')
+    split_again = os.path.join(top, 'network')
+    wrote(NODES, 'split', EXAMPLES / 'network', split_again)
+    expect(pathlib.Path(split_again, 'chen', 'job.toml').read_bytes() == (EXAMPLES / 'network/job.toml').read_bytes(), 'a split changed the job')
+
+
+def services(text):
+    """Of each section of a configuration the texts of its fields."""
+    return {name: dict(re.findall(r'(?m)^(\w+) = (.*)$', body)) for name, body in re.findall(r'(?ms)^\[(\w+)\]\n(.*?)(?=^\[|\Z)', text)}
+
+
+def expect_tunnels(port):
+    """That what each party starts leads to the node that it is for, by a door of the right computer, and asks for the right certificate."""
+    names, computers, used = ['anna', 'boris', 'chen', 'dora'], ['10.0.0.1', '10.0.0.2', '10.0.0.3', 'd.example'], set()
+    fields = {'parties': names, 'hosts': 4 * ['127.0.0.1'], 'port': port}
+    told = {(name, part): ''.join(lines(secured.Tunnels(fields, name, computers))) for name in names for part, lines in secured.PARTS.items()}
+    for p, q in itertools.permutations(range(4), 2):
+        place, goes, comes = port + 12 * q + p, services(told[names[p], 'out'])[f'to_{names[q]}'], services(told[names[q], 'in'])[f'from_{names[p]}']
+        host, door = goes['connect'].split(':')
+        expect(goes['accept'] == comes['connect'] == f'127.0.0.1:{place}' and host == computers[q] and door == comes['accept'], f'{goes} {comes}')
+        expect((goes['CAfile'], comes['CAfile']) == (f'{names[q]}.pem', f'{names[p]}.pem'), f'{goes} {comes}')
+        expect(f' -L 127.0.0.1:{place}:127.0.0.1:{place} {names[p]}@{computers[q]}\n' in told[names[p], 'ssh'], told[names[p], 'ssh'])
+        used |= {place, int(door)}
+    expect(len(used) == 24 and 1 <= min(used) and max(used) <= 65_535, f'{sorted(used)}')
+
+
+def tunnels_are_told(program, top):
+    """What is printed is what is expected, whole and in part; and a job whose nodes are reached by other ways is refused."""
+    for port in (4_000, 65_248, 65_249, 65_392):
+        expect_tunnels(port)
+    expected = (EXAMPLES / 'network/expected_tunnels').read_text()
+    expect(wrote(NODES, 'tunnels', EXAMPLES / 'network', 'boris') == expected, 'the tunnels of boris are other ones')
+    found = wrote(NODES, 'tunnels', EXAMPLES / 'network', 'boris', 'out', '--hosts', '10.0.0.1,b.example,10.0.0.3')
+    wanted = expected.split('\n\n; ')[2].replace('computer-of-anna', '10.0.0.1').replace('computer-of-chen', '10.0.0.3')
+    expect(found == f'; {wanted}', found)
+    wrote(NODES, 'split', EXAMPLES / 'auction', os.path.join(top, 'far'), '--hosts', 'a,b,c,d', '--port', '4000')
+    for words in [[os.path.join(top, 'far/anna'), 'anna'], [EXAMPLES / 'multiply', 'a'], [EXAMPLES / 'network', 'x'],
+                  [EXAMPLES / 'network', 'anna', '--hosts', 'a,b'], [EXAMPLES / 'network', 'anna', '--hosts', 'a,b,c d']]:
+        expect_one_line(call(NODES, 'tunnels', *words), f'nodes.py tunnels {words}', 'nodes.py: ')
+
+
+def keys_are_made(program, top):
+    """A key that its party alone can read, and a certificate, whose fingerprint is told; none where one is there, or where there is no openssl."""
+    empty = os.path.join(top, 'empty')
+    os.mkdir(empty)
+    done = subprocess.run([sys.executable, '-B', NODES, 'keys', top, 'anna'], capture_output=True, timeout=MOST_SECONDS, env={**os.environ, 'PATH': empty})
+    expect_one_line(done, 'keys without openssl', 'nodes.py: openssl has to be on the PATH')
+    if not shutil.which('openssl'):
+        return
+    told = wrote(NODES, 'keys', top, 'anna')
+    certificate = pathlib.Path(top, 'anna.pem').read_text()
+    digest = hashlib.sha256(ssl.PEM_cert_to_DER_cert(certificate)).hexdigest().upper()
+    expect(told == f'anna.pem sha256 Fingerprint={":".join(re.findall("..", digest))}\n', told)
+    expect(os.stat(os.path.join(top, 'anna.key')).st_mode & 0o777 == 0o600, 'others can read the key')
+    expect('PRIVATE' in pathlib.Path(top, 'anna.key').read_text() and 'PRIVATE' not in certificate, 'the key stands in the certificate')
+    for words in [[top, 'anna'], [top, 'of'], [top, '../b'], [os.path.join(top, 'none'), 'boris']]:
+        expect_one_line(call(NODES, 'keys', *words), f'nodes.py keys {words}', 'nodes.py: ')
+    os.remove(os.path.join(top, 'anna.key'))
+    expect_one_line(call(NODES, 'keys', top, 'anna'), 'a certificate that is there', 'nodes.py: ')
+    expect(sorted(os.listdir(top)) == ['anna.pem', 'empty'] and pathlib.Path(top, 'anna.pem').read_text() == certificate, 'a refused call wrote a file')
+
+
 def another_job_is_told(program, top):
     """By its digests side by side, and before a node is started."""
     target = os.path.join(top, 'nodes')
@@ -824,7 +943,7 @@ def another_job_is_told(program, top):
     with open(os.path.join(folders[2], 'job.toml'), 'a', encoding='utf-8') as file:
         file.write('# mine\n')
     found = call(NODES, 'compare', *folders)
-    last = f'{folders[2]}: job.toml is another one from line 12 on\n'
+    last = f'{folders[2]}: job.toml is another one from line 13 on\n'
     expect(found.returncode == 1 and found.stdout.decode().endswith(last) and found.stdout.count(digest[:16].encode()) == 2, f'{found}')
     expect_one_line(call(NODES, 'run', target, program), 'a run of another job', 'nodes.py: not all have the same job: chen: job.toml ')
     shutil.copy(os.path.join(folders[0], 'job.toml'), folders[2])
@@ -867,7 +986,11 @@ OTHER_WORDS = [(NUMBERS, words) for words in ([], ['write'], ['write', 'j'], ['r
     (CIRCUITS, []), (CIRCUITS, ['job']), (CIRCUITS, ['job', 'f']), (CIRCUITS, ['job', 'f', 'total', '8', 'a', '--helper']),
     (CIRCUITS, ['job', 'f', 'total', '8', 'a', '--tolerated', 'a', '--tolerated', 'b']), (EXPRESSIONS_SCRIPT, []), (EXPRESSIONS_SCRIPT, ['compile', 'f']), (AUCTION, []), (AUCTION, ['read']), (AUCTION, ['make']),
     (BY_LAYERS, []), (BY_LAYERS, ['a', 'b', 'c', 'd']), (PICTURE, []), (UNPROVED, []), (UNPROVED, ['j', '--views', 'a']), (AES, []), (AES, ['make', 'f', '0' * 32]), (AES, ['read']), (AES_CIRCUIT, ['f']),
-    (NODES, []), (NODES, ['run']), (NODES, ['compare']), (NODES, ['wait', 'j']), (NODES, ['split', 'j']), (NODES, ['split', 'j', 'f', '--hosts', 'h'])]
+    (NODES, []), (NODES, ['run']), (NODES, ['compare']), (NODES, ['wait', 'j']), (NODES, ['split', 'j']), (NODES, ['split', 'j', 'f', '--hosts', 'h'])] + [
+    (NODES, words) for words in (['run', 'j', '--view'], ['run', 'j', '--frames'], ['run', 'j', '--hosts', 'h'], ['run', 'j', '--frames', 'short', '--frames', 'short'],
+                                 ['compare', 'j', '--frames', 'short'], ['wait', 'j', 'n', '--views', 'own'], ['split', 'j', 'f', '--port', '1'],
+                                 ['split', 'j', 'f', '--frames'], ['keys', 'f'], ['keys', 'f', 'n', 'm'], ['tunnels', 'j'], ['tunnels', 'j', 'n', 'up'],
+                                 ['tunnels', 'j', 'n', '--port', '1'], ['tunnels', 'j', 'n', 'in', 'out'])]
 
 
 def helps_are_there(program, top):
@@ -881,13 +1004,13 @@ def helps_are_there(program, top):
 
 CASES = [circuits_are_their_numbers, layers_are_together, circuits_come_into_layers, s_boxes_are_the_standards, aes_is_the_standards,
          circuits_have_limits, numbers_come_back, numbers_are_signed_and_divided, numbers_that_do_not_fit, other_lines_are_refused,
-         views_are_passed_over, outputs_that_fail, programs_that_are_not_there, odd_folders, links_and_folders,
+         views_are_passed_over, outputs_that_fail, programs_that_are_not_there, programs_that_are_late, odd_folders, links_and_folders,
          changed_jobs_are_read_or_refused, expressions_are_words, refusals_are_those_of_the_rows,
          circuits_come_to_the_rows, examples_have_their_circuits, expressions_are_refused_in_one_line, an_auction_of_two, jobs_of_calls,
          jobs_with_helpers, numbers_are_divided_by_values, doubts_are_told, formulas_are_those_of_the_rows, pictures_count_what_runs_send,
          the_product_is_the_examples, jobs_are_drawn, an_unproved_run, ports_of_the_job_are_taken,
          nodes_beside_one_another, a_node_that_fails_stops_the_others, a_node_that_waits_is_told, nodes_are_split,
-         another_job_is_told, those_who_wait_meet, helps_are_there]
+         frames_and_views_are_options, tunnels_are_told, keys_are_made, another_job_is_told, those_who_wait_meet, helps_are_there]
 
 
 def tried(case, program):

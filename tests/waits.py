@@ -1,6 +1,7 @@
 """Waits for programs that have a limit. One that isn't kept is told in one line."""
 
 import os
+import signal
 import subprocess
 import sys
 
@@ -9,10 +10,12 @@ MOST_SECONDS = 300
 
 
 def ended(process, seconds=MOST_SECONDS):
-    """The status of a process that was started, and what it wrote on both outputs. Past the limit it is killed."""
+    """The status of a process that was started, and what it wrote on both outputs. Past the limit it is killed, with all of its group where it leads one."""
     try:
         out, err = process.communicate(timeout=seconds)
     except subprocess.TimeoutExpired:
+        if os.getpgid(process.pid) == process.pid:
+            os.killpg(process.pid, signal.SIGKILL)
         process.kill()
         process.communicate()
         raise

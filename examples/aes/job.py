@@ -29,7 +29,7 @@ def number_of(word):
 
 def make(folder, words):
     numbers = [[number_of(word)] for word in words]
-    write_job(folder, 1, PARTIES, PARTIES[:2], circuit_text(), 'aes.txt', 'bristol', PARTIES[2:])
+    write_job(folder, 1, PARTIES, PARTIES[:2], circuit_text(), 'aes.txt', 'bristol', PARTIES[2:], [[party] for party in PARTIES], 'short')
     job = read_job(folder)
     for party, given in zip(PARTIES, [*numbers, []]):
         write_party(folder, job, party, given)

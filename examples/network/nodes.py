@@ -1,25 +1,36 @@
 #!/usr/bin/env python3
 """Runs each party of a job by a node of its own, over TCP.
 
-    examples/network/nodes.py split JOB FOLDER [--hosts HOST,HOST,.. --port PORT]
+    examples/network/nodes.py split JOB FOLDER [--hosts HOST,HOST,.. --port PORT] [--frames short] [--views own]
     examples/network/nodes.py compare FOLDER ..
+    examples/network/nodes.py keys FOLDER NAME
+    examples/network/nodes.py tunnels JOB NAME [ssh|in|out] [--hosts HOST,HOST,..]
     examples/network/nodes.py wait FOLDER NAME [SECONDS]
-    examples/network/nodes.py run JOB [PROGRAM] [--view]
+    examples/network/nodes.py run JOB [PROGRAM] [--frames short] [--views own]
 
 'split' writes a folder for each party, FOLDER/NAME, with the job's file, its circuits and that party's own file alone: all of them, or
-none where a file is missing. With hosts, one for each party in order, and a port it adds these to a job that has none.
+none where a file is missing. With hosts, one for each party in order, and a port it adds these to a job that has none. With --frames short
+what is sent for a message is its word alone, and with --views own each node writes its own view behind its outputs. Both are fields of version 2,
+so a formula gives way to the list of the groups that must learn nothing. The other texts are 'named' and 'none'.
 
 'compare' prints the digest by which nodes tell a job, and those of its files, side by side for several folders, and says which file of
 which folder differs. Of one folder it prints them whole, to be read to the others. It ends with status 1 where folders differ.
+
+'keys' makes the key FOLDER/NAME.key and the certificate FOLDER/NAME.pem by which 'stunnel' knows a party, and prints the fingerprint of the
+certificate. It needs 'openssl'.
+
+'tunnels' prints what the party NAME starts so that its connections to each peer go through tunnels: the lines of 'ssh', and the two
+configurations of 'stunnel', of what is let in and of what goes out. With one of the three words it prints that one alone. The hosts are the
+parties' computers, in order; those of the job are 127.0.0.1 for all, so that nodes are reached by tunnels alone.
 
 'wait' is for all parties at once, before a run: each listens and connects where its node NAME would, for SECONDS (60 where it isn't said),
 and prints which peers it reaches, which reach it, and which have another job. It ends with status 0 once all are ready. A node that runs
 already takes it for a peer, so it comes before the nodes.
 
 'run' splits the job into temporary folders, in which this machine is each host and the ports are free ones, starts all nodes here, and
-prints what each of them writes, in the order of the parties, with its own view where that is asked for. JOB may also be the FOLDER that
-'split' wrote: then nothing is started where one party has another job, and it says which. It tells which nodes it waits for; once one
-fails it stops the others, and ends with status 1. The program is ./mpc of this repository, or the one that is named.
+prints what each of them writes, in the order of the parties. JOB may also be the FOLDER that 'split' wrote: then nothing is started where one
+party has another job, and it says which. It tells which nodes it waits for; once one fails it stops the others, and ends with status 1. The
+program is ./mpc of this repository, or the one that is named.
 """
 
 import contextlib
@@ -41,6 +52,8 @@ from doubts import doubt  # noqa: E402
 from job_folder import Refusal, job_text, need, number_in, read_bytes, read_fields, run_script, write_new  # noqa: E402
 from reached import await_peers  # noqa: E402
 from same_job import compare, differences, files_of, known_of  # noqa: E402
+from secured import PARTS, make_key, print_tunnels  # noqa: E402
+from summands import tolerated_of  # noqa: E402
 
 HERE = '127.0.0.1'
 MOST_PORT = 65_392
@@ -61,20 +74,41 @@ STOPPING = 5
 # Seconds that 'wait' tries for.
 USUAL_WAIT, MOST_WAIT = 60, 86_400
 
+# The options of each call, and the texts of those that are a field of the job.
+OPTIONS = {'split': {'--hosts', '--port', '--frames', '--views'}, 'run': {'--frames', '--views'}, 'tunnels': {'--hosts'}}
+TEXTS = {'frames': ('named', 'short'), 'views': ('none', 'own')}
 
-def parts_of(folder, hosts=None, port=None, replace=False):
-    """The files of each party's folder, by the parties' names. Hosts and a port that stand in the job are replaced only where that is said."""
+
+def need_hosts(hosts, parties):
+    """Refuses hosts that are not one for each party, or out of form."""
+    need(len(hosts) == len(parties), f'there are {len(parties)} parties and {len(hosts)} hosts: each has one')
+    wrong = next((host for host in hosts if not HOST.fullmatch(host)), None)
+    need(wrong is None, f'{str(wrong)[:80]!r} is no host: 1 to 64 letters, digits, ".", "-" and ":"')
+
+
+def in_version_2(fields):
+    """The fields of the same job in version 2, where a list of the groups that must learn nothing stands in place of a formula."""
+    if fields.get('version') != 1:
+        return fields
+    listed = {'tolerated' if name == 'formula' else name: tolerated_of(fields) if name == 'formula' else value for name, value in fields.items()}
+    return {**listed, 'version': 2}
+
+
+def parts_of(folder, hosts=None, port=None, replace=False, further=None):
+    """The files of each party's folder, by the parties' names. Hosts and a port that stand in the job are replaced only where that is said; the
+    further fields stand in version 2 alone."""
     fields, files = files_of(folder)
+    own = {name: f'party_{name}.toml' for name in fields['parties']}
     if hosts is None:
         need({'hosts', 'port'} <= set(fields), 'the job has no hosts and port, without which no node runs: add --hosts HOST,HOST,.. --port PORT')
     else:
-        need(len(hosts) == len(fields['parties']), f'there are {len(fields["parties"])} parties and {len(hosts)} hosts: each has one')
-        wrong = next((host for host in hosts if not HOST.fullmatch(host)), None)
-        need(wrong is None, f'{str(wrong)[:80]!r} is no host: 1 to 64 letters, digits, ".", "-" and ":"')
+        need_hosts(hosts, fields['parties'])
         need(replace or not {'hosts', 'port'} & set(fields), 'the job has hosts or a port already')
         fields.update(hosts=hosts, port=port)
+    if further:
+        fields = {**in_version_2(fields), **further}
+    if further or hosts is not None:
         files['job.toml'] = job_text(fields).encode()
-    own = {name: f'party_{name}.toml' for name in fields['parties']}
     return {name: {**files, own[name]: read_bytes(folder, own[name])} for name in own}
 
 
@@ -100,9 +134,9 @@ def write_folder(folder, files):
         write_new(folder, name, data, 0o600 if name.startswith('party_') else 0o644)
 
 
-def split(folder, target, hosts=None, port=None, replace=False):
+def split(folder, target, hosts=None, port=None, replace=False, further=None):
     """Writes a folder for each party, or none, and gives the parties' names."""
-    parts = parts_of(folder, hosts, port, replace)
+    parts = parts_of(folder, hosts, port, replace, further)
     folders = {name: os.path.join(target, name) for name in parts}
     there = next((path for path in folders.values() if os.path.lexists(path)), None)
     need(there is None, f'{there} is there already')
@@ -140,11 +174,10 @@ def free_port(count):
 class Node:
     """A node that runs, and the files of what it writes."""
 
-    def __init__(self, program, target, name, options):
+    def __init__(self, program, target, name):
         self.name, self.files = name, [os.path.join(target, f'{name}.{stream}') for stream in ('out', 'err')]
         with open(self.files[0], 'wb') as out, open(self.files[1], 'wb') as err:
-            self.process = subprocess.Popen([program, 'node', os.path.join(target, name), name, *options], stdin=subprocess.DEVNULL,
-                                            stdout=out, stderr=err)
+            self.process = subprocess.Popen([program, 'node', os.path.join(target, name), name], stdin=subprocess.DEVNULL, stdout=out, stderr=err)
 
     def runs(self):
         return self.process.poll() is None
@@ -198,8 +231,8 @@ def wait_for(nodes):
         time.sleep(LOOK)
 
 
-def run(folder, program, options):
-    """Starts a node for each party, with these options, and prints what they write."""
+def run(folder, program, further):
+    """Starts a node for each party, of the job with these further fields, and prints what they write."""
     signal.signal(signal.SIGTERM, lambda *_: sys.exit('nodes.py: terminated'))
     with tempfile.TemporaryDirectory() as top, contextlib.ExitStack() as stack:
         files = joined(folder)
@@ -213,8 +246,8 @@ def run(folder, program, options):
         doubt(folder)
         count, target = len(read_fields(folder)['parties']), os.path.join(top, 'nodes')
         nodes = []
-        for name in split(folder, target, [HERE] * count, free_port(count), replace=True):
-            nodes.append(Node(program, target, name, options))
+        for name in split(folder, target, [HERE] * count, free_port(count), True, further):
+            nodes.append(Node(program, target, name))
             stack.callback(nodes[-1].stop)
         wait_for(nodes)
         for node in nodes:
@@ -222,29 +255,59 @@ def run(folder, program, options):
     return 0
 
 
-def split_and_doubt(folder, target, hosts=None, port=None):
-    split(folder, target, hosts, port)
+def split_and_doubt(folder, target, options, further):
+    hosts, port = options.get('--hosts'), options.get('--port')
+    if hosts is not None:
+        need(port.isascii() and port.isdigit() and len(port) <= 5 and 1 <= int(port) <= MOST_PORT, f'a port is a number from 1 to {MOST_PORT}')
+        hosts, port = hosts.split(','), int(port)
+    split(folder, target, hosts, port, further=further)
     doubt(folder)
     return 0
 
 
+def tunnels(folder, name, part, hosts):
+    fields = read_fields(folder)
+    if hosts is not None:
+        need_hosts(hosts, fields['parties'])
+    print_tunnels(fields, name, part, hosts)
+    return 0
+
+
+def options_of(call, words):
+    """The texts of the options behind a call's words, or nothing where a word is out of place."""
+    options = dict(zip(words[::2], words[1::2]))
+    fits = len(words) == 2 * len(options) and set(options) <= OPTIONS.get(call, set())
+    return options if fits and (call != 'split' or ('--hosts' in options) == ('--port' in options)) else None
+
+
+def further_fields(options):
+    """The fields of the job that the options name."""
+    for name, texts in TEXTS.items():
+        text = options.get(f'--{name}', texts[0])
+        need(text in texts, f'--{name} is one of {" and ".join(texts)}, and not {text[:40]!r}')
+    return {name: options[f'--{name}'] for name in TEXTS if f'--{name}' in options}
+
+
 def main(words):
-    options = words[-1:] if words[:1] == ['run'] and words[-1] == '--view' else []
-    call, *job = words[:len(words) - len(options)] or ['']
     if words in (['-h'], ['--help']):
         print(__doc__)
         return 0
-    if call == 'run' and len(job) in (1, 2):
-        return run(job[0], job[1] if len(job) == 2 else str(TOP / 'mpc'), options)
-    if call == 'split' and len(job) == 2:
-        return split_and_doubt(*job)
-    if call == 'split' and len(job) == 6 and job[2] == '--hosts' and job[4] == '--port':
-        need(job[5].isascii() and job[5].isdigit() and len(job[5]) <= 5 and 1 <= int(job[5]) <= MOST_PORT, f'a port is a number from 1 to {MOST_PORT}')
-        return split_and_doubt(job[0], job[1], job[3].split(','), int(job[5]))
-    if call == 'compare' and job:
-        return compare(job)
-    if call == 'wait' and len(job) in (2, 3):
-        return await_peers(*job[:2], number_in(job[2], MOST_WAIT, 'SECONDS') if len(job) == 3 else USUAL_WAIT)
+    call, *rest = words or ['']
+    count = next((place for place, word in enumerate(rest) if word.startswith('--')), len(rest))
+    job, options = rest[:count], options_of(call, rest[count:])
+    if options is not None:
+        if call == 'run' and len(job) in (1, 2):
+            return run(job[0], job[1] if len(job) == 2 else str(TOP / 'mpc'), further_fields(options))
+        if call == 'split' and len(job) == 2:
+            return split_and_doubt(*job, options, further_fields(options))
+        if call == 'compare' and job:
+            return compare(job)
+        if call == 'keys' and len(job) == 2:
+            return make_key(*job)
+        if call == 'tunnels' and len(job) in (2, 3) and job[2:] in ([], *([part] for part in PARTS)):
+            return tunnels(*job[:2], *(job[2:] or [None]), options['--hosts'].split(',') if options else None)
+        if call == 'wait' and len(job) in (2, 3):
+            return await_peers(*job[:2], number_in(job[2], MOST_WAIT, 'SECONDS') if len(job) == 3 else USUAL_WAIT)
     print(__doc__.split('\n\n')[1], file=sys.stderr)
     return 2
 
