@@ -383,7 +383,7 @@ INTRO = {
     ('posting_laws', 'PostingOrders'): 'Each word is posted by its sender, as it computes it by itself from its inputs, its tape and the words that came to it before, once nothing that is still to come can change it. So an order is any that a network and parties of any speed can make.',
     ('decoded_jobs', 'Jobs'): 'A job is what files of it say, once they were read: nothing here speaks of files.',
     ('share_world', 'Locals'): 'The same equations for one party alone, which has `got` as the words of its messages.',
-    ('frame_code', 'Frames'): 'A hello takes 38 bytes, as a digest has 32, and a frame 18.',
+    ('frame_code', 'Frames'): 'A hello takes 38 bytes, as a digest has 32, and a frame 18 where it names its message, else as many as its word.',
     ('party_program', 'Programs'): 'A party does a list of instructions. They stand here since a run that broke off is told by how far it came in that list.',
     ('network_laws', 'Networks'): 'A network is a node for each party of one world, with a pipe from each party to each other. Of each node it takes what `Runs`, below, says of a run.',
     ('node_talk', 'Talks'): 'A node is one party by itself. It says to each other party a hello and its messages as frames, and expects the same of it.',

@@ -1,5 +1,5 @@
 -- What a command line asks for.
-use Rattle.std.specs.Prelude.{ℕ, ◌<◌, ◌≤◌, ◌==◌, ◌&&◌, nat_le, Bool, true, false, not, if◌then◌else◌, List, [], ◌∷◌, Option, Some, None, option_and_then, option_map, codes}
+use Rattle.std.specs.Prelude.{ℕ, ◌<◌, ◌≤◌, ◌==◌, ◌&&◌, nat_le, Bool, false, not, if◌then◌else◌, List, [], ◌∷◌, Option, Some, None, option_and_then, option_map, codes}
 use Rattle.std.specs.Str.{bytes_eq}
 use Rattle.text_tokens.specs.Numbers.{number_written}
 use Rattle.command_words.specs.declared.command.Command.{Command}
@@ -7,12 +7,12 @@ use Rattle.command_words.specs.declared.command.Command.TheVariants.{Run, Check,
 use Rattle.command_words.specs.declared.limits.TheConstants.{MOST_SAMPLE}
 use Rattle.plan_faults.specs.declared.limits.TheConstants.{MOST_WORKERS}
 
--- a command, with the bytes of its words; a run may ask for the view of a group, and a node for its own
+-- a command, with the bytes of its words; a run may ask for the view of a group
 pub data CommandForm : Type 0 where
   run : (dir : List ℕ) → (workers : ℕ) → (view : Option (List ℕ)) → CommandForm
   check : (dir : List ℕ) → CommandForm
   pair : (dir : List ℕ) → (group : List ℕ) → CommandForm
-  node : (dir : List ℕ) → (name : List ℕ) → (view : Bool) → CommandForm
+  node : (dir : List ℕ) → (name : List ℕ) → CommandForm
   sample : (count : ℕ) → CommandForm
   audit : (dir : List ℕ) → CommandForm
 
@@ -20,7 +20,7 @@ abbrev pub form_of : Command → CommandForm
 form_of (Run dir workers view) = run dir.now workers (option_map (λ group. group.now) view)
 form_of (Check dir) = check dir.now
 form_of (Pair dir group) = pair dir.now group.now
-form_of (Node dir name view) = node dir.now name.now view
+form_of (Node dir name) = node dir.now name.now
 form_of (Sample count) = sample count
 form_of (Audit dir) = audit dir.now
 
@@ -29,7 +29,7 @@ abbrev pub IsInRange : Command → Type 0
 IsInRange (Run dir workers view) = (0 < workers) × (workers ≤ MOST_WORKERS)
 IsInRange (Check dir) = Unit
 IsInRange (Pair dir group) = Unit
-IsInRange (Node dir name view) = Unit
+IsInRange (Node dir name) = Unit
 IsInRange (Sample count) = (0 < count) × (count ≤ MOST_SAMPLE)
 IsInRange (Audit dir) = Unit
 
@@ -95,14 +95,9 @@ pair_asked dir options = None
 
 -- ---- a node
 
--- a node of this party, and whether its own view is asked for
-abbrev pub named_node : List ℕ → List ℕ → Bool → Option CommandForm
-named_node dir name view = if is_plain name then Some (node dir name view) else None
-
--- a node of a folder, after which the name of its party stands, and the option of its view, if at all
+-- a node of a folder, after which the name of its party stands, and no other word
 abbrev pub node_asked : List ℕ → List (List ℕ) → Option CommandForm
-node_asked dir (name ∷ []) = named_node dir name false
-node_asked dir (name ∷ option ∷ []) = if is_view option then named_node dir name true else None
+node_asked dir (name ∷ []) = if is_plain name then Some (node dir name) else None
 node_asked dir options = None
 
 -- ---- a sample

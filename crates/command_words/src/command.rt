@@ -1,7 +1,7 @@
 //! Commands, and the words that ask for them.
 ghost use Rattle.std.specs.Prelude.{◌≡◌, map, Some, None, IfOk, IfSome, OnErr, [], ◌∷◌, option_map, string_bytes};
 ghost use Rattle.command_words.specs.Commands.{is_plain, count_up_to, is_workers, is_view, run_by, run_seen, run_by_seen};
-ghost use Rattle.command_words.specs.Commands.{run_asked, check_asked, pair_asked, named_node, node_asked, sample_asked, audit_asked, asked, command_of, form_of, IsInRange};
+ghost use Rattle.command_words.specs.Commands.{run_asked, check_asked, pair_asked, node_asked, sample_asked, audit_asked, asked, command_of, form_of, IsInRange};
 
 use crate::limits::MOST_SAMPLE;
 use plan_faults::MOST_WORKERS;
@@ -27,12 +27,10 @@ pub enum Command<'w> {
         dir: &'w str,
         group: &'w str,
     },
-    /// `node DIR NAME [--view]`: runs the party of this name, by itself, in the job of the folder; with its own view, where
-    /// that is asked for.
+    /// `node DIR NAME`: runs the party of this name, by itself, in the job of the folder.
     Node {
         dir: &'w str,
         name: &'w str,
-        view: bool,
     },
     /// `sample N`: makes a job of N gates, 1 to 65,536, and runs it.
     Sample {
@@ -210,39 +208,19 @@ fn pair_asked<'w>(dir: &'w str, options: &'w [String]) -> Option<Command<'w>>
     }
 }
 
-/// A node of this party, with its own view or without.
-fn named_node<'w>(dir: &'w str, name: &'w str, view: bool) -> Option<Command<'w>>
-    ensures form { option_map form_of result ≡ named_node dir.now name.now view }
-    ensures range { IfSome result IsInRange }
-{
-    if is_plain(name) {
-        Some(Command::Node { dir, name, view })
-    } else {
-        None
-    }
-}
-
-/// A node of this party with an option.
-fn node_with<'w>(dir: &'w str, name: &'w str, option: &str) -> Option<Command<'w>>
-    ensures form { option_map form_of result ≡ node_asked dir.now (name.now ∷ option.now ∷ []) }
-    ensures range { IfSome result IsInRange }
-{
-    if is_view(option) {
-        named_node(dir, name, true)
-    } else {
-        None
-    }
-}
-
 /// A node of a folder, after which these words stand.
 fn node_asked<'w>(dir: &'w str, options: &'w [String]) -> Option<Command<'w>>
     ensures form { option_map form_of result ≡ node_asked dir.now (map string_bytes options.now) }
     ensures range { IfSome result IsInRange }
 {
-    match options.len() {
-        1 => named_node(dir, options[0].as_str(), false),
-        2 => node_with(dir, options[0].as_str(), options[1].as_str()),
-        _ => None,
+    if options.len() != 1 {
+        return None;
+    }
+    let name = options[0].as_str();
+    if is_plain(name) {
+        Some(Command::Node { dir, name })
+    } else {
+        None
     }
 }
 
@@ -311,7 +289,7 @@ fn command_of(words: &[String]) -> Option<Command<'_>>
 /// # Errors
 ///
 /// `Refused` where the words, after the first, are none of the forms `run DIR [--workers W] [--view GROUP]`,
-/// `check DIR`, `pair DIR --group GROUP`, `node DIR NAME [--view]`, `sample N` and `audit DIR`. The two options of `run`
+/// `check DIR`, `pair DIR --group GROUP`, `node DIR NAME`, `sample N` and `audit DIR`. The two options of `run`
 /// stand in either order, each at most once. DIR, GROUP and NAME aren't empty and don't begin with `-`. W is one or more
 /// digits with a value from 1 to 16, and N with one from 1 to 65,536.
 pub fn read_command(words: &[String]) -> Result<Command<'_>, Refused>

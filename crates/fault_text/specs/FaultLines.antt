@@ -2,6 +2,7 @@
 use Rattle.std.specs.Prelude.{ℕ, ◌+◌, ◌/◌, ◌%◌, nat_lt, if◌then◌else◌, List, [], ◌∷◌, ◌++◌, codes, decimal}
 use Rattle.std.specs.List.{flat_map}
 use Rattle.party_set.specs.Names.{name_at}
+use Rattle.frame_code.specs.Frames.{shown}
 use Rattle.node_talk.specs.declared.fault.NodeFault.{NodeFault}
 use Rattle.node_talk.specs.declared.fault.NodeFault.TheVariants.{Link, Closed, BadFrame, OtherJob, NoThread}
 
@@ -43,6 +44,6 @@ job_line peer ours theirs =
 unfoldable pub fault_line : List (List ℕ) → NodeFault → List ℕ
 fault_line names (Link peer) = short_line (codes "link") (name_at names peer)
 fault_line names (Closed peer at) = closed_line (name_at names peer) at
-fault_line names (BadFrame peer at bytes) = frame_line (name_at names peer) at bytes
+fault_line names (BadFrame peer at bytes) = frame_line (name_at names peer) at (shown bytes)
 fault_line names (OtherJob peer ours theirs) = job_line (name_at names peer) ours theirs
 fault_line names (NoThread peer) = short_line (codes "thread") (name_at names peer)

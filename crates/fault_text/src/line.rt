@@ -2,10 +2,11 @@
 ghost use Rattle.outer_io.specs.Sink.{Writes};
 ghost use Rattle.outer_io.specs.Blocks.{Adds};
 ghost use Rattle.party_set.specs.Names.{name_at};
+ghost use Rattle.frame_code.specs.Frames.{shown};
 ghost use Rattle.fault_text.specs.FaultLines.{fault_line, short_line, closed_line, frame_line, job_line, fault_head};
 
 use crate::hex::gather_hex;
-use frame_code::{FRAME_BYTES, HELLO_BYTES};
+use frame_code::{FrameBytes, HELLO_BYTES};
 use node_talk::NodeFault;
 use outer_io::{Blocks, Failed, Gather, Sink};
 use party_set::Names;
@@ -51,20 +52,14 @@ fn gather_closed<G: Gather>(out: &mut G, names: &Names, peer: u32, at: u64)
 }
 
 #[tactic(auto, using(outer_io::proofs::GatheredTexts::adds_then))]
-fn gather_frame<G: Gather>(
-    out: &mut G,
-    names: &Names,
-    peer: u32,
-    at: u64,
-    bytes: &[u8; FRAME_BYTES],
-)
-    ensures { Adds (frame_line (name_at names.now peer) at bytes.now) (G.gathered out.old) (G.gathered out.new) }
+fn gather_frame<G: Gather>(out: &mut G, names: &Names, peer: u32, at: u64, bytes: &FrameBytes)
+    ensures { Adds (frame_line (name_at names.now peer) at (shown bytes.now)) (G.gathered out.old) (G.gathered out.new) }
 {
     gather_head(out, "frame", names, peer);
     out.push(b" at=");
     gather_number(out, at);
     out.push(b" bytes=");
-    gather_hex(out, bytes);
+    gather_hex(out, bytes.as_slice());
     out.push(b"\n");
 }
 

@@ -1,15 +1,23 @@
 //! What two parties say to one another over a pipe, in bytes: a hello, and then a frame for each message.
 #![tactic(auto)]
 
+mod framing;
+mod named;
+mod short;
 mod sizes;
 
-ghost use Rattle.std.specs.Prelude.{◌≡◌, ◌≢◌, ◌↔◌, ◌<◌, ◌^◌, ℕ, List, IfSome, IsNone, Some, slice_index};
+ghost use Rattle.std.specs.Prelude.{◌≡◌, ◌<◌, ◌≤◌, ◌^◌, ℕ, List, length, IfSome, Some};
 ghost use Rattle.job_plan.specs.declared.key.Key.{Key as Message};
-ghost use Rattle.frame_code.specs.Frames.{hello, frame, FitsFrame};
+ghost use Rattle.frame_code.specs.declared.framing.Framing.{Framing as FramingModel};
+ghost use Rattle.frame_code.specs.Frames.{hello, frame, named_frame, frame_bytes, shown, FitsFrame};
 
-use byteorder::{BigEndian, ByteOrder};
+use framing::all_of;
+pub use framing::{FrameBytes, FrameForm, Framing};
 use job_plan::Key;
-pub use sizes::{FRAME_BYTES, HELLO_BYTES};
+use named::named_frame;
+pub use named::{named_word, read_frame};
+use short::{short_frame, short_word};
+pub use sizes::{HELLO_BYTES, NAMED_BYTES};
 
 const MAGIC: [u8; 4] = *b"MPC1";
 
@@ -28,44 +36,35 @@ pub fn hello(from: u32, to: u32, digest: &[u8; 32]) -> [u8; HELLO_BYTES]
 }
 
 /// The frame of a message and its word.
-pub fn frame(key: &Key, word: u64) -> [u8; FRAME_BYTES]
-    requires { FitsFrame key.now }
-    ensures { result ≡ frame key.now word }
+pub fn frame(framing: Framing, key: &Key, word: u64) -> FrameBytes
+    requires fits { FitsFrame key.now }
+    requires bits { framing.bits ≤ 64 }
+    requires small { word < 2 ^ framing.bits }
+    ensures frame { shown result ≡ frame framing key.now word }
+    ensures count { result.count ≡ frame_bytes framing }
 {
-    let mut bytes = [0; FRAME_BYTES];
-    bytes[0] = 1;
-    BigEndian::write_u16(&mut bytes[1..], key.session as u16);
-    BigEndian::write_u32(&mut bytes[3..], key.slot);
-    bytes[7] = key.share as u8;
-    bytes[8] = key.sender as u8;
-    bytes[9] = key.receiver as u8;
-    BigEndian::write_u64(&mut bytes[10..], word);
-    bytes
+    match framing.form {
+        FrameForm::Named => FrameBytes {
+            bytes: named_frame(key, word),
+            count: NAMED_BYTES,
+        },
+        FrameForm::Short => short_frame(framing.bits, word),
+    }
 }
 
-/// The message and the word of a frame, None exactly where the first byte is not 1.
-pub fn read_frame(bytes: &[u8; FRAME_BYTES]) -> Option<(Key, u64)>
-    ensures none { IsNone result ↔ (slice_index bytes.now 0 ≢ 1) }
-    ensures back { (key : Message) (word : ℕ) → FitsFrame key → word < 2 ^ 64 → bytes.now ≡ frame key word
-        → result ≡ Some (key, word) }
-    ensures reads { IfSome result (λ read. bytes.now ≡ frame read.0 read.1) }
-    ensures fits { IfSome result (λ read. FitsFrame read.0) }
-    ensures word { IfSome result (λ read. read.1 < 2 ^ 64) }
+/// The word of the frame of this message, None where the bytes are not its frame.
+pub fn frame_word(framing: Framing, key: &Key, bytes: &FrameBytes) -> Option<u64>
+    requires fits { FitsFrame key.now }
+    requires bits { framing.bits ≤ 64 }
+    requires count { bytes.now.count ≡ frame_bytes framing }
+    ensures back { (word : ℕ) → word < 2 ^ framing.bits → shown bytes.now ≡ frame framing key.now word
+        → result ≡ Some word }
+    ensures reads { IfSome result (λ word. shown bytes.now ≡ frame framing key.now word) }
 {
-    if bytes[0] != 1 {
-        return None;
+    match framing.form {
+        FrameForm::Named => named_word(key, &all_of(bytes.bytes)),
+        FrameForm::Short => Some(short_word(framing.bits, bytes)),
     }
-    let key = Key {
-        session: u32::from(u16::from_be_bytes([bytes[1], bytes[2]])),
-        slot: u32::from_be_bytes([bytes[3], bytes[4], bytes[5], bytes[6]]),
-        share: u32::from(bytes[7]),
-        sender: u32::from(bytes[8]),
-        receiver: u32::from(bytes[9]),
-    };
-    let word = u64::from_be_bytes([
-        bytes[10], bytes[11], bytes[12], bytes[13], bytes[14], bytes[15], bytes[16], bytes[17],
-    ]);
-    Some((key, word))
 }
 
 /// Different parties, or digests of different jobs, have different hellos.
@@ -73,8 +72,15 @@ pub fn each_hello_is_of_one_meeting()
     ensures { (p q r s : ℕ) (c d : List ℕ) → hello p q c ≡ hello r s d → (p ≡ r) × (q ≡ s) × (c ≡ d) }
 {}
 
-/// Different messages and words have different frames.
+/// Each frame has so many bytes, and different words have different frames.
+pub fn each_frame_has_one_word()
+    ensures long { (f : FramingModel) (key : Message) (word : ℕ) → length (frame f key word) ≡ frame_bytes f }
+    ensures word { (f : FramingModel) (key : Message) (v w : ℕ) → f.bits ≤ 64 → v < 2 ^ f.bits → w < 2 ^ f.bits
+        → frame f key v ≡ frame f key w → v ≡ w }
+{}
+
+/// Different messages and words have different frames that name them.
 pub fn each_frame_is_of_one_message()
     ensures { (k l : Message) (v w : ℕ) → FitsFrame k → FitsFrame l → v < 2 ^ 64 → w < 2 ^ 64
-        → frame k v ≡ frame l w → (k ≡ l) × (v ≡ w) }
+        → named_frame k v ≡ named_frame l w → (k ≡ l) × (v ≡ w) }
 {}

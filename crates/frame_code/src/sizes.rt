@@ -3,5 +3,5 @@
 /// The bytes of a hello.
 pub const HELLO_BYTES: usize = 38;
 
-/// The bytes of a frame.
-pub const FRAME_BYTES: usize = 18;
+/// The bytes of a frame that names its message, the longest of all.
+pub const NAMED_BYTES: usize = 18;

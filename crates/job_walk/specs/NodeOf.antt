@@ -1,9 +1,11 @@
 -- The node that files stand for, where they tell what they hold: one party of a job, by itself.
-use Rattle.std.specs.Prelude.{ℕ, true, List, [], ◌∷◌, map, Option, None, Some}
+use Rattle.std.specs.Prelude.{ℕ, Bool, true, false, List, [], ◌∷◌, map, Option, None, Some}
 use Rattle.party_set.specs.Names.{party_named}
 use Rattle.job_plan.specs.Plans.{Plan, plan_of}
 use Rattle.job_plan.specs.Keeping.{keeping}
 use Rattle.job_file.specs.Forms.{JobForm, SessionForm}
+use Rattle.frame_code.specs.declared.framing.FrameForm.{FrameForm}
+use Rattle.frame_code.specs.declared.framing.FrameForm.TheVariants.{Named, Short}
 use Rattle.job_digest.specs.Digests.{digest_of}
 use Rattle.party_file.specs.Table.{PartyForm}
 use Rattle.refusal_text.specs.Lines.{name_line}
@@ -25,12 +27,19 @@ circuit_files job = map (λ (session : SessionForm). session.circuit) job.sessio
 abbrev pub job_digest : Contents → List ℕ → JobForm → List ℕ
 job_digest files dir job = digest_of (all_bytes_at files dir (job_file ∷ circuit_files job))
 
--- one party of a job: the names of all, where they are met, which party it is, the plan, what the party gives, and the
--- digest of the job
+-- the form of frames between the nodes of a job that has short ones or not
+abbrev pub frames_of : Bool → FrameForm
+frames_of true = Short
+frames_of false = Named
+
+-- one party of a job: the names of all, where they are met, the form of their frames, whether each writes its own view,
+-- which party it is, the plan, what the party gives, and the digest of the job
 pub record NodeForm : Type 0 where
   pub names : List (List ℕ)
   pub hosts : List (List ℕ)
   pub port : ℕ
+  pub form : FrameForm
+  pub view : Bool
   pub me : ℕ
   pub plan : Plan
   pub given : PartyForm
@@ -49,6 +58,8 @@ NodeAt files dir name =
       names = job.names;
       hosts = job.hosts;
       port = job.port;
+      form = frames_of job.short_frames;
+      view = job.own_views;
       me = me;
       plan = plan;
       given = given;

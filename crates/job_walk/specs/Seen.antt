@@ -9,7 +9,7 @@ use Rattle.job_walk.specs.declared.plan.PlanRest.{PlanRest}
 use Rattle.job_walk.specs.declared.node.NodeRest.{NodeRest}
 use Rattle.job_walk.specs.declared.node.NodeJob.{NodeJob}
 use Rattle.job_walk.specs.JobOf.{Planned}
-use Rattle.job_walk.specs.NodeOf.{NodeForm}
+use Rattle.job_walk.specs.NodeOf.{NodeForm, frames_of}
 
 abbrev pub planned_view : code.Planned → Planned
 planned_view p = record { names = p.names; group = p.group; plan = p.plan }
@@ -27,6 +27,8 @@ node_view job = record {
   names = job.names;
   hosts = job.hosts;
   port = job.port;
+  form = job.form;
+  view = job.view;
   me = job.me;
   plan = job.plan;
   given = form_of job.given;
@@ -39,6 +41,8 @@ node_with job rest = record {
   names = job.names;
   hosts = job.hosts;
   port = job.port;
+  form = frames_of job.short_frames;
+  view = job.own_views;
   me = rest.me;
   plan = rest.plan;
   given = form_of rest.given;

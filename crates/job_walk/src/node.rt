@@ -12,7 +12,7 @@ ghost use Rattle.job_walk.specs.JobReads.{ReadsNode};
 ghost use Rattle.job_walk.specs.FileLogs.{Logs};
 ghost use Rattle.job_walk.specs.Verdict.{Ends};
 ghost use Rattle.job_walk.specs.JobOf.{JobText};
-ghost use Rattle.job_walk.specs.NodeOf.{party_of, NodeAt};
+ghost use Rattle.job_walk.specs.NodeOf.{party_of, frames_of, NodeAt};
 ghost use Rattle.job_walk.specs.Reads.{ReadsAs, WalksAs};
 ghost use Rattle.job_walk.specs.Seen.{node_with};
 
@@ -23,6 +23,7 @@ use crate::plan::make_plan;
 use crate::sessions::read_sessions;
 use crate::stop::refusal;
 use crate::structure::structure_of;
+use frame_code::FrameForm;
 use job_digest::JobDigest;
 use job_file::Job;
 use job_plan::Plan;
@@ -32,13 +33,15 @@ use party_set::Names;
 use refusal_text::name_line;
 use std::alloc::Global;
 
-/// What one party needs to run by itself: the names of all parties, where they are met, its number, the plan, its own
-/// inputs and tapes, and the digest of the job.
+/// What one party needs to run by itself: the names of all parties, where they are met, the form of their frames, whether
+/// each writes its own view, its number, the plan, its own inputs and tapes, and the digest of the job.
 #[derive(Drop)]
 pub struct NodeJob {
     pub names: Names,
     pub hosts: Hosts,
     pub port: u16,
+    pub form: FrameForm,
+    pub view: bool,
     pub me: u32,
     pub plan: Plan,
     pub given: PartyData,
@@ -64,6 +67,8 @@ pub fn read_node<F: Files>(
         names,
         hosts,
         port,
+        short_frames,
+        own_views,
         ..
     } = job;
     let rest = rest?;
@@ -77,11 +82,24 @@ pub fn read_node<F: Files>(
         names,
         hosts,
         port,
+        form: frames_of(short_frames),
+        view: own_views,
         me,
         plan,
         given,
         digest,
     })
+}
+
+// The form of frames, short or not.
+fn frames_of(short: bool) -> FrameForm
+    ensures { result ≡ frames_of short }
+{
+    if short {
+        FrameForm::Short
+    } else {
+        FrameForm::Named
+    }
 }
 
 // What is read beside the job's file.

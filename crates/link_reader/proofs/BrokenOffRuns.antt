@@ -76,6 +76,7 @@ module _ (n : Node) (long : length n.digest ≡ 32) (before after : LinksReading
       takes = h.takes;
       keeps = h.keeps got read_words;
       told = h.sent got read_words;
+      sends = h.sends got read_words;
       all = all;
     },
   )

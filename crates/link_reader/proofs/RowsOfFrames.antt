@@ -7,19 +7,20 @@ use Rattle.job_plan.specs.Numbers.{no_key}
 use Rattle.list_laws.proofs.JoinedLists.{every_append}
 use Rattle.outer_io.specs.Inlet.{InletReading, ahead}
 use Rattle.outer_io.proofs.FilledPlaces.{ahead-append}
+use Rattle.frame_code.specs.declared.framing.Framing.{Framing}
 use Rattle.frame_code.specs.Frames.{frame}
-use Rattle.link_reader.specs.Expected.{TalkModel, key_at}
+use Rattle.link_reader.specs.Expected.{TalkModel, framing_of, key_at}
 use Rattle.link_reader.specs.Heard.{hello_of, Gave, StaysSteady}
 use Rattle.link_reader.specs.ReadWords.{framed, WordsCame}
 
-framed_none : (keys : List Key) → framed keys [] ≡ []
-framed_none [] = refl
-framed_none (key ∷ keys) = refl
+framed_none : (f : Framing) (keys : List Key) → framed f keys [] ≡ []
+framed_none f [] = refl
+framed_none f (key ∷ keys) = refl
 
-framed_more : (keys : List Key) (words : List ℕ) (word : ℕ) → length words < length keys → framed keys (words ++ word ∷ []) ≡ framed keys words ++ frame (slice_index_or keys (length words) no_key) word
-framed_more [] words word l = absurd (omega arith)
-framed_more (key ∷ keys) [] word l = ap (λ z. frame key word ++ z) (framed_none keys) ∙ append-nil (frame key word)
-framed_more (key ∷ keys) (w ∷ words) word l = ap (λ z. frame key w ++ z) (framed_more keys words word (omega arith)) ∙ sym (append_assoc (frame key w) (framed keys words) (frame (slice_index_or keys (length words) no_key) word))
+framed_more : (f : Framing) (keys : List Key) (words : List ℕ) (word : ℕ) → length words < length keys → framed f keys (words ++ word ∷ []) ≡ framed f keys words ++ frame f (slice_index_or keys (length words) no_key) word
+framed_more f [] words word l = absurd (omega arith)
+framed_more f (key ∷ keys) [] word l = ap (λ z. frame f key word ++ z) (framed_none f keys) ∙ append-nil (frame f key word)
+framed_more f (key ∷ keys) (w ∷ words) word l = ap (λ z. frame f key w ++ z) (framed_more f keys words word (omega arith)) ∙ sym (append_assoc (frame f key w) (framed f keys words) (frame f (slice_index_or keys (length words) no_key) word))
 
 -- the hello came, and no word yet
 pub hello_came : (talk : TalkModel) (before after : InletReading) → Gave (hello_of talk) before after → WordsCame talk [] before after
@@ -27,21 +28,21 @@ hello_came talk before after gave =
     record {
       few = omega arith;
       small = tt;
-      told = gave.told ∙ ap (λ z. ahead z after.told) (sym (append-nil (hello_of talk)) ∙ ap (λ z. hello_of talk ++ z) (sym (framed_none talk.keys)));
+      told = gave.told ∙ ap (λ z. ahead z after.told) (sym (append-nil (hello_of talk)) ∙ ap (λ z. hello_of talk ++ z) (sym (framed_none (framing_of talk) talk.keys)));
       faults = gave.faults;
       ended = gave.ended;
     }
 
 -- one more word came
 pub came_more : (talk : TalkModel) (words : List ℕ) (word : ℕ) (before now after : InletReading) → WordsCame talk words before now → length words < length talk.keys → word < 2 ^ talk.bits
-    → Gave (frame (key_at talk (length words)) word) now after → WordsCame talk (words ++ word ∷ []) before after
+    → Gave (frame (framing_of talk) (key_at talk (length words)) word) now after → WordsCame talk (words ++ word ∷ []) before after
 came_more talk words word before now after h few small gave =
-    let next : List ℕ = frame (key_at talk (length words)) word in
+    let next : List ℕ = frame (framing_of talk) (key_at talk (length words)) word in
     record {
       few = omega (arith, few, length-append words (word ∷ []));
       small = every_append (λ w. w < 2 ^ talk.bits) words (word ∷ []) h.small (small, tt);
-      told = h.told ∙ ap (ahead (hello_of talk ++ framed talk.keys words)) gave.told ∙ ahead-append (hello_of talk ++ framed talk.keys words) next after.told
-          ∙ ap (λ z. ahead z after.told) (append_assoc (hello_of talk) (framed talk.keys words) next ∙ ap (λ z. hello_of talk ++ z) (sym (framed_more talk.keys words word few)));
+      told = h.told ∙ ap (ahead (hello_of talk ++ framed (framing_of talk) talk.keys words)) gave.told ∙ ahead-append (hello_of talk ++ framed (framing_of talk) talk.keys words) next after.told
+          ∙ ap (λ z. ahead z after.told) (append_assoc (hello_of talk) (framed (framing_of talk) talk.keys words) next ∙ ap (λ z. hello_of talk ++ z) (sym (framed_more (framing_of talk) talk.keys words word few)));
       faults = gave.faults ∙ h.faults;
       ended = gave.ended ∙ h.ended;
     }

@@ -4,10 +4,10 @@ use Rattle.std.specs.Prelude.{slice_index, slice_index_or}
 use Rattle.job_plan.specs.Numbers.{no_key}
 use Rattle.outer_io.specs.Count.{Rose}
 use Rattle.outer_io.specs.Inlet.{InletReading, ahead}
-use Rattle.frame_code.specs.Frames.{hello}
+use Rattle.frame_code.specs.Frames.{hello, shown}
 use Rattle.node_talk.specs.declared.fault.NodeFault.{NodeFault}
 use Rattle.node_talk.specs.declared.fault.NodeFault.TheVariants.{Link, Closed, BadFrame, OtherJob, NoThread}
-use Rattle.node_talk.specs.Talks.{Node, IsPeer, expected, stream}
+use Rattle.node_talk.specs.Talks.{Node, IsPeer, framing, expected, stream}
 use Rattle.node_talk.specs.PeerLinks.{in_from}
 use Rattle.outer_io.specs.Links.{LinksReading}
 use Rattle.node_talk.specs.Causes.{Cause, CameAfter}
@@ -33,7 +33,7 @@ module _ (n : Node) (q : ℕ) (long : length n.digest ≡ 32) (peer : IsPeer n q
       record {
         word = word_at n words;
         small = small_words n.world.plan.bits (word_at n words) (expected n q) words (length words) h.few (omega arith) fits h.small;
-        told = h.told ∙ ap (λ z. ahead (hello q n.me n.digest ++ z) mid.told) (framed_taken (word_at n words) (expected n q) words h.few fits) ∙ ap (ahead (stream n.digest q n.me (word_at n words) (take (length words) (expected n q)))) told;
+        told = h.told ∙ ap (λ z. ahead (hello q n.me n.digest ++ z) mid.told) (framed_taken (framing n) (word_at n words) (expected n q) words h.few fits) ∙ ap (ahead (stream (framing n) n.digest q n.me (word_at n words) (take (length words) (expected n q)))) told;
       }
 
   of_frame : (fault : NodeFault) (words : List ℕ) (mid : InletReading) → WordsCame (incoming n q) words now mid → length words < length (expected n q)
@@ -64,7 +64,7 @@ module _ (n : Node) (q : ℕ) (long : length n.digest ≡ 32) (peer : IsPeer n q
           within = less;
           place = g.1;
           long = g.2.long;
-          came = came_after words bytes mid h g.2.told;
+          came = came_after words (shown bytes) mid h g.2.told;
           no_frame = g.2.no_frame;
         },
       )

@@ -3,17 +3,24 @@ use Rattle.std.specs.Prelude.{◌≡◌, ℕ, ◌<◌, ◌≤◌, ◌^◌, List,
 use Rattle.job_plan.specs.declared.key.Key.{Key}
 use Rattle.job_plan.specs.Numbers.{no_key}
 use Rattle.job_plan.specs.Messages.{messages}
+use Rattle.frame_code.specs.declared.framing.FrameForm.{FrameForm}
+use Rattle.frame_code.specs.declared.framing.Framing.{Framing}
 use Rattle.frame_code.specs.Frames.{FitsFrame}
 use Rattle.node_talk.specs.Talks.{Node, place_of}
 
--- the hello of `peer` to party `me`, in a job of this digest, and then a frame for each of these messages, with words
--- of `bits` bits
+-- the hello of `peer` to party `me`, in a job of this digest, and then a frame of this form for each of these messages,
+-- with words of `bits` bits
 pub record TalkModel : Type 0 where
   pub peer : ℕ
   pub me : ℕ
   pub digest : List ℕ
   pub bits : ℕ
   pub keys : List Key
+  pub form : FrameForm
+
+-- how its messages are framed
+abbrev pub framing_of : TalkModel → Framing
+framing_of talk = record { form = talk.form; bits = talk.bits }
 
 -- the message of the frame at this place
 abbrev pub key_at : TalkModel → ℕ → Key

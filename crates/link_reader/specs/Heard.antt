@@ -2,12 +2,12 @@
 use Rattle.std.specs.Prelude.{◌≡◌, ◌≢◌, ℕ, ◌+◌, ◌<◌, ◌≤◌, ◌^◌, IsTrue, List, length, None, Result, Ok, Err}
 use Rattle.outer_io.specs.Count.{Rose}
 use Rattle.outer_io.specs.Inlet.{InletReading, ahead, IsAtEnd}
-use Rattle.frame_code.specs.Frames.{hello, frame, frame_begin}
+use Rattle.frame_code.specs.Frames.{hello, frame, frame_begin, frame_bytes, shown}
 use Rattle.node_talk.specs.declared.fault.NodeFault.{NodeFault}
 use Rattle.node_talk.specs.declared.fault.NodeFault.TheVariants.{Link, Closed, BadFrame, OtherJob, NoThread}
 use Rattle.node_talk.specs.Causes.{IsWordOf}
-use Rattle.link_reader.specs.Expected.{TalkModel, key_at}
-use Rattle.frame_code.specs.declared.sizes.TheConstants.{HELLO_BYTES, FRAME_BYTES}
+use Rattle.link_reader.specs.Expected.{TalkModel, framing_of, key_at}
+use Rattle.frame_code.specs.declared.sizes.TheConstants.{HELLO_BYTES}
 
 -- the hello that is expected
 abbrev pub hello_of : TalkModel → List ℕ
@@ -40,9 +40,9 @@ pub record EndedWithin (wanted at count : ℕ) (before after : InletReading) : T
 
 -- these bytes came, but they are not the frame at this place with a word of the ring
 pub record GaveNoFrame (talk : TalkModel) (place : ℕ) (bytes : List ℕ) (before after : InletReading) : Type 0 where
-  pub long : length bytes ≡ FRAME_BYTES
+  pub long : length bytes ≡ frame_bytes (framing_of talk)
   pub told : before.told ≡ ahead bytes after.told
-  pub no_frame : IsWordOf bytes talk.bits (key_at talk place) None
+  pub no_frame : IsWordOf bytes (framing_of talk) (key_at talk place) None
 
 -- these bytes came, but they are not the hello
 pub record GaveOtherHello (talk : TalkModel) (bytes : List ℕ) (before after : InletReading) : Type 0 where
@@ -54,9 +54,9 @@ pub record GaveOtherHello (talk : TalkModel) (bytes : List ℕ) (before after : 
 abbrev pub NoFrame : TalkModel → ℕ → InletReading → InletReading → NodeFault → Type 0
 NoFrame talk place before after (Link peer) = (peer ≡ talk.peer) × Rose before.faults after.faults
 NoFrame talk place before after (Closed peer at) =
-    (peer ≡ talk.peer) × EndedWithin FRAME_BYTES (frame_begin place) at before after
+    (peer ≡ talk.peer) × EndedWithin (frame_bytes (framing_of talk)) (frame_begin (framing_of talk) place) at before after
 NoFrame talk place before after (BadFrame peer at bytes) =
-    (peer ≡ talk.peer) × (at ≡ frame_begin place) × GaveNoFrame talk place bytes before after
+    (peer ≡ talk.peer) × (at ≡ frame_begin (framing_of talk) place) × GaveNoFrame talk place (shown bytes) before after
 NoFrame talk place before after (OtherJob peer ours theirs) = ⊥
 NoFrame talk place before after (NoThread peer) = ⊥
 
@@ -71,7 +71,7 @@ NoHello talk before after (NoThread peer) = ⊥
 
 -- the frame at this place came with a word of the ring, or why it didn't
 abbrev pub Hears : TalkModel → ℕ → InletReading → InletReading → Result ℕ NodeFault → Type 0
-Hears talk place before after (Ok word) = (word < 2 ^ talk.bits) × Gave (frame (key_at talk place) word) before after
+Hears talk place before after (Ok word) = (word < 2 ^ talk.bits) × Gave (frame (framing_of talk) (key_at talk place) word) before after
 Hears talk place before after (Err fault) = NoFrame talk place before after fault
 
 -- the hello came, or why it didn't

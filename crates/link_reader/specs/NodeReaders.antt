@@ -7,13 +7,20 @@ use Rattle.node_talk.specs.Talks.{Node, IsPeer, IsRun, Stays, own_word, said, ta
 use Rattle.node_talk.specs.PeerLinks.{in_from, out_to}
 use Rattle.outer_io.specs.Links.{LinksReading}
 use Rattle.node_talk.specs.Causes.{Cause}
-use Rattle.node_talk.specs.Runs.{TalkedThrough, KeepsItsWords, TakesWhatCame, StopsAfter, NoSendRose, AllStarted, BrokeOff}
+use Rattle.node_talk.specs.Runs.{TalkedThrough, KeepsItsWords, TakesWhatCame, StopsAfter, NoSendRose, AllStarted, SaysFirst, BrokeOff}
 use Rattle.link_reader.specs.Expected.{TalkModel}
 use Rattle.link_reader.specs.ReadWords.{ReadsWords}
 
 -- what party n expects of q
 abbrev pub incoming : Node → ℕ → TalkModel
-incoming n q = record { peer = q; me = n.me; digest = n.digest; bits = n.world.plan.bits; keys = expected n q }
+incoming n q = record {
+  peer = q;
+  me = n.me;
+  digest = n.digest;
+  bits = n.world.plan.bits;
+  keys = expected n q;
+  form = n.form;
+}
 
 -- these words were read of q, between what the links showed before and what they show after
 abbrev pub ReadsFrom : Node → ℕ → List ℕ → LinksReading → LinksReading → Result (Unit {0}) NodeFault → Type 0
@@ -75,8 +82,8 @@ pub record SaidWhatItCould (n : Node) (words : ℕ → List ℕ) (kept : Key →
   pub stops : StopsAfter n (λ q. length (words q)) k
 
 -- a party stopped at a fault: of what its first k instructions say it said a first part, whatever words are still to
--- come, and they take only words that were read, or that it kept for itself as it computes them. Where no send failed and
--- all readers were started, it said what it could
+-- come, and all of it but where a send failed; and they take only words that were read, or that it kept for itself as it
+-- computes them. Where no send failed and all readers were started, it said what it could
 pub record StoppedShort (n : Node) (before after : LinksReading) (fault : NodeFault) : Type 0 where
   pub k : ℕ
   pub words : ℕ → List ℕ
@@ -86,6 +93,8 @@ pub record StoppedShort (n : Node) (before after : LinksReading) (fault : NodeFa
   pub keeps : (got : Key → ℕ) → HasReadWords n got words kept → KeepsItsWords n got k
   pub sent : (got : Key → ℕ) → HasReadWords n got words kept → (q : ℕ) → IsPeer n q
       → AddedPrefix (out_to n before q).told (said n q (own_word n got) k) (out_to n after q).told
+  pub sends : (got : Key → ℕ) → HasReadWords n got words kept
+      → SaysFirst n (own_word n got) k (out_to n before) (out_to n after)
   pub all : AllStarted fault → NoSendRose n before after → SaidWhatItCould n words kept k before after
 
 -- so it broke off

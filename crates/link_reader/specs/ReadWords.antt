@@ -3,26 +3,27 @@ use Rattle.std.specs.Prelude.{◌≡◌, ℕ, suc, ◌<◌, ◌≤◌, ◌^◌, 
 use Rattle.std.specs.List.{AllByRecursion}
 use Rattle.job_plan.specs.declared.key.Key.{Key}
 use Rattle.outer_io.specs.Inlet.{InletReading, ahead}
+use Rattle.frame_code.specs.declared.framing.Framing.{Framing}
 use Rattle.frame_code.specs.Frames.{frame}
 use Rattle.node_talk.specs.declared.fault.NodeFault.{NodeFault}
 use Rattle.inbox_board.specs.Rule.{newcomer, ends}
 use Rattle.inbox_board.specs.Seats.{InboxModel, SeatModel, mark_of}
 use Rattle.inbox_board.specs.Folds.{pushed}
 use Rattle.link_reader.specs.Wakers.{WakerModel, gives}
-use Rattle.link_reader.specs.Expected.{TalkModel}
+use Rattle.link_reader.specs.Expected.{TalkModel, framing_of}
 use Rattle.link_reader.specs.Heard.{hello_of, KeepsCalm, NoFrame, NoHello}
 
 -- the frames of the first messages, with these words
-abbrev pub framed : List Key → List ℕ → List ℕ
-framed [] words = []
-framed (key ∷ keys) [] = []
-framed (key ∷ keys) (word ∷ words) = frame key word ++ framed keys words
+abbrev pub framed : Framing → List Key → List ℕ → List ℕ
+framed f [] words = []
+framed f (key ∷ keys) [] = []
+framed f (key ∷ keys) (word ∷ words) = frame f key word ++ framed f keys words
 
 -- the hello came, and then these words of the ring, each in the frame of the next message
 pub record WordsCame (talk : TalkModel) (words : List ℕ) (before after : InletReading) : Type 0 where
   pub few : length words ≤ length talk.keys
   pub small : AllByRecursion (λ word. word < 2 ^ talk.bits) words
-  pub told : before.told ≡ ahead (hello_of talk ++ framed talk.keys words) after.told
+  pub told : before.told ≡ ahead (hello_of talk ++ framed (framing_of talk) talk.keys words) after.told
   pub faults : after.faults ≡ before.faults
   pub ended : after.ended ≡ before.ended
 

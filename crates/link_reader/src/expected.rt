@@ -5,17 +5,19 @@ ghost use Rattle.node_talk.specs.Talks.{Node, messages_between};
 ghost use Rattle.link_reader.specs.Expected.{HasPlaces};
 
 use crate::incoming_talk::IncomingTalk;
+use frame_code::FrameForm;
 use job_plan::{Key, Plan};
 use std::alloc::{AllocError, Global};
 
 impl IncomingTalk {
-    /// What party `me` of a plan expects of `peer`, in a job of this digest.
+    /// What party `me` of a plan expects of `peer`, in a job of this digest and form of frames.
     pub fn of_plan(
         alloc: Global,
         plan: &Plan,
         me: u32,
         peer: u32,
         digest: [u8; 32],
+        form: FrameForm,
     ) -> Result<IncomingTalk, AllocError>
         requires parties { (me < plan.now.parties) × (peer < plan.now.parties) }
         ensures { IfOk result (λ talk. talk
@@ -25,10 +27,11 @@ impl IncomingTalk {
               digest = digest;
               bits = plan.now.bits;
               keys = messages_between plan.now peer me;
+              form = form;
             }) }
     {
         let keys = keys_between(alloc, plan, peer, me)?;
-        Ok(IncomingTalk::new(peer, me, digest, plan.ring(), keys))
+        Ok(IncomingTalk::new(peer, me, digest, plan.ring(), keys, form))
     }
 }
 

@@ -1,11 +1,12 @@
 //! What is heard of a peer: its hello, and one frame after another.
-ghost use Rattle.std.specs.Prelude.{◌<◌, ◌≤◌, length};
-ghost use Rattle.frame_code.specs.Frames.{FitsFrame};
+ghost use Rattle.std.specs.Prelude.{◌≡◌, ◌<◌, ◌≤◌, ◌+◌, ◌*◌, ◌^◌, length};
+ghost use Rattle.outer_io.specs.Inlet.{Fills};
+ghost use Rattle.frame_code.specs.Frames.{FitsFrame, frame_bytes, shown};
 ghost use Rattle.node_talk.specs.Causes.{IsWordOf};
 ghost use Rattle.link_reader.specs.Heard.{Hears, Meets, StaysSteady};
 
 use crate::incoming_talk::IncomingTalk;
-use frame_code::{FRAME_BYTES, HELLO_BYTES, hello, read_frame};
+use frame_code::{FrameBytes, Framing, HELLO_BYTES, NAMED_BYTES, frame_word, hello};
 use job_plan::Key;
 use mpc_ring::Ring;
 use node_talk::NodeFault;
@@ -33,6 +34,28 @@ pub fn meet<I: Inlet>(inlet: &mut I, talk: &IncomingTalk) -> Result<(), NodeFaul
     Ok(())
 }
 
+// Reads as many bytes as a frame has.
+fn fill_frame<I: Inlet>(inlet: &mut I, count: usize) -> (Filled, FrameBytes)
+    requires { count ≤ 18 }
+    ensures fills { Fills (shown result.1) (I.reading inlet.old) (I.reading inlet.new) result.0 }
+    ensures count { result.1.count ≡ count }
+    ensures long { length (shown result.1) ≡ count }
+{
+    let mut bytes = [0; NAMED_BYTES];
+    let filled = fill(inlet, &mut bytes[..count]);
+    (filled, FrameBytes { bytes, count })
+}
+
+// Where the frame at a place begins, if each has so many bytes.
+fn begin_of(bytes: usize, place: usize) -> u64
+    requires bytes { bytes ≤ 18 }
+    requires place { place < 2 ^ 32 }
+    ensures begin { result ≡ 38 + bytes * place }
+    ensures small { result < 2 ^ 40 }
+{
+    HELLO_BYTES as u64 + bytes as u64 * place as u64
+}
+
 // Reads the frame at a place, whose word it gives.
 pub fn hear<I: Inlet>(inlet: &mut I, talk: &IncomingTalk, place: usize) -> Result<u64, NodeFault>
     requires place { place < length talk.now.keys }
@@ -40,9 +63,11 @@ pub fn hear<I: Inlet>(inlet: &mut I, talk: &IncomingTalk, place: usize) -> Resul
     ensures steady { StaysSteady (I.reading inlet.old) (I.reading inlet.new) }
 {
     let peer = talk.peer;
-    let at = HELLO_BYTES as u64 + FRAME_BYTES as u64 * place as u64;
-    let mut bytes = [0; FRAME_BYTES];
-    match fill(inlet, &mut bytes) {
+    let framing = talk.framing();
+    let wanted = framing.frame_bytes();
+    let at = begin_of(wanted, place);
+    let (filled, bytes) = fill_frame(inlet, wanted);
+    match filled {
         Filled::Full => (),
         Filled::Short(count) => {
             let at = at + count as u64;
@@ -50,22 +75,20 @@ pub fn hear<I: Inlet>(inlet: &mut I, talk: &IncomingTalk, place: usize) -> Resul
         }
         Filled::Faulty => return Err(NodeFault::Link { peer }),
     }
-    match word_of(&bytes, talk.ring, talk.keys[place]) {
+    match word_of(&bytes, framing, talk.ring, talk.keys[place]) {
         Some(word) => Ok(word),
         None => Err(NodeFault::BadFrame { peer, at, bytes }),
     }
 }
 
 // The word of a frame of this message, if it is one with a word of the ring.
-fn word_of(bytes: &[u8; FRAME_BYTES], ring: Ring, key: Key) -> Option<u64>
+fn word_of(bytes: &FrameBytes, framing: Framing, ring: Ring, key: Key) -> Option<u64>
     requires key { FitsFrame key }
+    requires count { bytes.now.count ≡ frame_bytes framing }
+    requires bits { framing.bits ≡ ring }
     requires ring { ring ≤ 64 }
-    ensures { IsWordOf bytes.now ring key result }
+    ensures { IsWordOf (shown bytes.now) framing key result }
 {
-    let (found, word) = read_frame(bytes)?;
-    if found == key && ring.fits(word) {
-        Some(word)
-    } else {
-        None
-    }
+    let word = frame_word(framing, &key, bytes)?;
+    if ring.fits(word) { Some(word) } else { None }
 }

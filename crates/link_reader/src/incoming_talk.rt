@@ -1,6 +1,7 @@
 //! What a party expects of a peer.
 ghost use Rattle.std.specs.Prelude.{◌≡◌, ◌<◌, ◌^◌, length, vec_len};
 
+use frame_code::{FrameForm, Framing};
 use job_plan::Key;
 use mpc_ring::Ring;
 use std::marker::Model;
@@ -13,6 +14,7 @@ pub struct IncomingTalk {
     pub(crate) digest: [u8; 32],
     pub(crate) ring: Ring,
     pub(crate) keys: Vec<Key>,
+    pub(crate) form: FrameForm,
 }
 
 // To a contract it is its parts, which have room in a hello and in frames.
@@ -21,20 +23,27 @@ impl Model for IncomingTalk {
 
     ghost Value = { TalkModel };
 
-    ghost view = { λ t. record { peer = t.peer; me = t.me; digest = t.digest; bits = t.ring; keys = t.keys.items } };
+    ghost view = { λ t. record { peer = t.peer; me = t.me; digest = t.digest; bits = t.ring; keys = t.keys.items; form = t.form } };
 
     ghost invariant = { λ t. FitsTalk (view t) };
 }
 
 impl IncomingTalk {
-    ghost use Rattle.link_reader.specs.Expected.{AllFitFrames};
+    ghost use Rattle.link_reader.specs.Expected.{AllFitFrames, framing_of};
 
     /// What party `me` expects of `peer`, in a job of this digest: each message is one from that peer to this party.
-    pub fn new(peer: u32, me: u32, digest: [u8; 32], ring: Ring, keys: Vec<Key>) -> IncomingTalk
+    pub fn new(
+        peer: u32,
+        me: u32,
+        digest: [u8; 32],
+        ring: Ring,
+        keys: Vec<Key>,
+        form: FrameForm,
+    ) -> IncomingTalk
         requires parties { (peer < 256) × (me < 256) }
         requires few { vec_len keys < 2 ^ 32 }
         requires fit { AllFitFrames keys.items }
-        ensures { result ≡ record { peer = peer; me = me; digest = digest; bits = ring; keys = keys.items } }
+        ensures { result ≡ record { peer = peer; me = me; digest = digest; bits = ring; keys = keys.items; form = form } }
     {
         let _bits = ring.bits();
         IncomingTalk {
@@ -43,6 +52,17 @@ impl IncomingTalk {
             digest,
             ring,
             keys,
+            form,
+        }
+    }
+
+    /// How its messages are framed.
+    pub fn framing(&self) -> Framing
+        ensures { result ≡ framing_of self.now }
+    {
+        Framing {
+            form: self.form,
+            bits: self.ring.bits(),
         }
     }
 

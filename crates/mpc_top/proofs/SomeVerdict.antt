@@ -268,7 +268,7 @@ unfolding DueOf
 command_ends (run dir workers view) files = then_ends _ _ (job_ends files dir view) (λ job is. ends _)
 command_ends (check dir) files = then_ends _ _ (plan_at_ends files dir None) (λ planned is. ends _)
 command_ends (pair dir group) files = then_ends _ _ (pair_ends files dir group) (λ job is. ends _)
-command_ends (node dir name view) files = then_ends _ _ (node_ends files dir name) (λ job is. ends _)
+command_ends (node dir name) files = then_ends _ _ (node_ends files dir name) (λ job is. ends _)
 command_ends (sample count) files = ends _
 command_ends (audit dir) files = then_ends _ _ (audit_ends files dir) (λ count is. ends _)
 
@@ -279,10 +279,10 @@ some_due (Some (sample count)) told = command_ends (sample count) (λ name. None
 some_due (Some (run dir workers view)) None = (missing [], tt)
 some_due (Some (check dir)) None = (missing [], tt)
 some_due (Some (pair dir group)) None = (missing [], tt)
-some_due (Some (node dir name view)) None = (missing [], tt)
+some_due (Some (node dir name)) None = (missing [], tt)
 some_due (Some (audit dir)) None = (missing [], tt)
 some_due (Some (run dir workers view)) (Some files) = command_ends (run dir workers view) files
 some_due (Some (check dir)) (Some files) = command_ends (check dir) files
 some_due (Some (pair dir group)) (Some files) = command_ends (pair dir group) files
-some_due (Some (node dir name view)) (Some files) = command_ends (node dir name view) files
+some_due (Some (node dir name)) (Some files) = command_ends (node dir name) files
 some_due (Some (audit dir)) (Some files) = command_ends (audit dir) files

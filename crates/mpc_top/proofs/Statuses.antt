@@ -154,7 +154,7 @@ module _ (words : List (List ℕ)) (before after : Outside) where
     accepted (talk cause.0),
     cause.1.0,
     λ memory lets. elim lets [
-      | inl quiet ↦ absurd (quiet_talk cause.0.job before after fault cause.3 quiet.1)
+      | inl quiet ↦ absurd (quiet_talk cause.0 before after fault cause.3 quiet.1)
       | inr steady ↦ absurd (steady_talk cause.0 before after fault cause.3 steady.1)
     ],
   )

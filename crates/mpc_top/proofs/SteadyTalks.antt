@@ -15,8 +15,9 @@ use Rattle.node_talk.specs.Talks.{Node, IsPeer}
 use Rattle.node_talk.specs.PeerLinks.{place_among, no_inlet, no_outlet, in_from, out_to}
 use Rattle.node_talk.specs.Runs.{HearsAll}
 use Rattle.node_run.proofs.ReaderRuns.{none_left}
+use Rattle.job_walk.specs.NodeOf.{NodeForm}
 use Rattle.mpc_top.specs.Outside.{Outside}
-use Rattle.mpc_top.specs.NodeTalks.{NodeAsked, offered, Talks, LetsTalk}
+use Rattle.mpc_top.specs.NodeTalks.{offered, Talks, LetsTalk}
 
 unless_false : (b : Bool) → (b ≡ false → ⊥) → IsTrue b
 unless_false true never = refl
@@ -30,9 +31,9 @@ at_each p xs k d l all = unless_false (p (get_or xs k d)) (λ no. false≢true (
 not_risen : (faults faults' : ℕ) → faults ≡ 0 → faults' ≡ faults → Rose faults faults' → ⊥
 not_risen faults faults' none same rose = absurd (omega (arith, none, same, rose))
 
-module _ (asked : NodeAsked) (before after : Outside) (fault : NodeFault) (t : Talks asked.job before after (Err fault)) (lets : LetsTalk asked before) where
+module _ (job : NodeForm) (before after : Outside) (fault : NodeFault) (t : Talks job before after (Err fault)) (lets : LetsTalk job before) where
   abbrev links : LinksReading
-  links = offered asked.job before
+  links = offered job before
 
   abbrev n : Node
   n = t.someone.0

@@ -45,13 +45,13 @@ pub record Keeps (before after : Outside) : Type 0 where
 
 -- what a talk needs to come to its end, where no count rose: that its peers say all that is expected of them
 abbrev pub IsQuiet : Outside → Outside → Verdict Due → Type 0
-IsQuiet before after (accepted (talk asked)) = HearsAllQuietly asked.job before after
+IsQuiet before after (accepted (talk job)) = HearsAllQuietly job before after
 IsQuiet before after _ = Unit {0}
 
 -- the sink that gets the text of the verdict has room for it, and a talk can come to its end
 abbrev pub HasRoom : Outside → Verdict Due → Type 0
 HasRoom before (accepted (text due)) = length due ≤ before.out.room
-HasRoom before (accepted (talk asked)) = LetsTalk asked before
+HasRoom before (accepted (talk job)) = LetsTalk job before
 HasRoom before (missing name) = length (files_fault_line name) ≤ before.err.room
 HasRoom before (refused status line) = length line ≤ before.err.room
 

@@ -1,5 +1,5 @@
 -- What the words of a call are due over files: a verdict.
-use Rattle.std.specs.Prelude.{◌≡◌, ℕ, Bool, List, map, Option, None, Some, IfSome, String, string_bytes}
+use Rattle.std.specs.Prelude.{◌≡◌, ℕ, List, map, Option, None, Some, IfSome, String, string_bytes}
 use Rattle.std.specs.declared.alloc.Global.{Global}
 use Rattle.outer_io.specs.Files.{Told}
 use Rattle.command_words.specs.Commands.{CommandForm, run, check, pair, node, sample, audit}
@@ -15,7 +15,6 @@ use Rattle.job_walk.specs.JobOf.{Contents, Planned, PlanAt}
 use Rattle.job_walk.specs.NodeOf.{NodeForm, NodeAt}
 use Rattle.mpc_top.specs.WholeJobs.{WholeJob, PairedJob, second_of, JobAt, PairAt}
 use Rattle.mpc_top.specs.Audits.{AuditAt}
-use Rattle.mpc_top.specs.NodeTalks.{NodeAsked}
 
 -- the bytes of each word
 abbrev pub words_view : List (String Global) → List (List ℕ)
@@ -24,7 +23,7 @@ words_view words = map string_bytes words
 -- what is due where the files are accepted: a text; or a talk of one party with the others, and then its outputs
 pub data Due : Type 0 where
   text : List ℕ → Due
-  talk : NodeAsked → Due
+  talk : NodeForm → Due
 
 -- what a command is due over files; how many workers run a job changes nothing
 unfoldable pub DueOf : CommandForm → Contents → Verdict Due → Type 0
@@ -36,8 +35,7 @@ DueOf (check dir) files =
 DueOf (pair dir group) files =
     Then (PairAt files dir group) (λ (p : PairedJob).
     Ends (accepted (text (pair_text p.names p.first (second_of p) p.group))))
-DueOf (node dir name view) files =
-    Then (NodeAt files dir name) (λ (job : NodeForm). Ends (accepted (talk (record { job = job; view = view }))))
+DueOf (node dir name) files = Then (NodeAt files dir name) (λ (job : NodeForm). Ends (accepted (talk job)))
 DueOf (sample count) files =
     Ends (accepted (text (sample_text sample_names (sample_job count) count)))
 DueOf (audit dir) files =
@@ -45,17 +43,16 @@ DueOf (audit dir) files =
 
 -- the words are those of a node
 abbrev pub AsksForNode : Option CommandForm → Type 0
-AsksForNode command = (dir : List ℕ) × (name : List ℕ) × (view : Bool) × (command ≡ Some (node dir name view))
+AsksForNode command = (dir : List ℕ) × (name : List ℕ) × (command ≡ Some (node dir name))
 
 -- a command that is no node's
 abbrev pub IsAlone : CommandForm → Type 0
-IsAlone (node dir name view) = ⊥
+IsAlone (node dir name) = ⊥
 IsAlone command = Unit {0}
 
 -- whatever the files tell, a talk is due to the words of a node alone
 abbrev pub Suits : Option CommandForm → Verdict Due → Type 0
-Suits command (accepted (talk asked)) =
-    (dir : List ℕ) × (name : List ℕ) × (command ≡ Some (node dir name asked.view))
+Suits command (accepted (talk job)) = AsksForNode command
 Suits command verdict = Unit {0}
 
 -- what the files tell, as far as the command looks at it: a sample reads none, so it is as if there were none

@@ -17,7 +17,7 @@ asking_of None = None
 asking_of (Some (run dir workers view)) = Some (job_asking dir [])
 asking_of (Some (check dir)) = Some (plan_asking dir)
 asking_of (Some (pair dir group)) = Some (job_asking dir (other_file ∷ []))
-asking_of (Some (node dir name view)) = Some (node_asking dir name)
+asking_of (Some (node dir name)) = Some (node_asking dir name)
 asking_of (Some (sample count)) = None
 asking_of (Some (audit dir)) = Some (job_asking dir (view_file ∷ []))
 

@@ -56,7 +56,7 @@ CommandHides (Some (run dir workers view)) told Written =
 CommandHides (Some (pair dir group)) told Written =
     IfSome told (λ files. (job : PairedJob) × PairAt files dir group (accepted job) × HidesPair job Written)
 CommandHides (Some (check dir)) told Written = Unit {0}
-CommandHides (Some (node dir name view)) told Written = Unit {0}
+CommandHides (Some (node dir name)) told Written = Unit {0}
 CommandHides (Some (sample count)) told Written = Unit {0}
 CommandHides (Some (audit dir)) told Written = Unit {0}
 CommandHides None told Written = Unit {0}

@@ -1,5 +1,5 @@
 -- What the talk of a node with the other parties comes to.
-use Rattle.std.specs.Prelude.{◌≡◌, ℕ, ◌-◌, ◌<◌, ◌≤◌, Bool, IsTrue, List, length, Result, Some}
+use Rattle.std.specs.Prelude.{◌≡◌, ℕ, ◌-◌, ◌<◌, ◌≤◌, IsTrue, List, length, Result, Some}
 use Rattle.job_plan.specs.declared.key.Key.{Key}
 use Rattle.outer_io.specs.Count.{Rose, last_count}
 use Rattle.outer_io.specs.Links.{LinksReading, HasPeers, Meeting, are_fresh, are_steady}
@@ -14,14 +14,9 @@ use Rattle.node_text.specs.NodeText.{node_text}
 use Rattle.job_walk.specs.NodeOf.{NodeForm}
 use Rattle.mpc_top.specs.Outside.{Outside}
 
--- a node of a job, and whether its own view is asked for
-pub record NodeAsked : Type 0 where
-  pub job : NodeForm
-  pub view : Bool
-
 -- what the party runs with
 abbrev pub node_part : NodeForm → NodePart
-node_part job = record { plan = job.plan; me = job.me; given = job.given; digest = job.digest }
+node_part job = record { plan = job.plan; me = job.me; given = job.given; digest = job.digest; form = job.form }
 
 -- what it asks of the net
 abbrev pub meeting_of : NodeForm → Meeting
@@ -32,9 +27,9 @@ meeting_of job =
 abbrev pub offered : NodeForm → Outside → LinksReading
 offered job outside = outside.net.offers (job.plan.parties - 1)
 
--- the lines of what it read, and its own view, if that is asked for
-abbrev pub lines_of : NodeAsked → Results → List ℕ
-lines_of asked results = node_text asked.job.names asked.job.plan asked.job.me asked.view results
+-- the lines of what it read, and its own view, if the nodes of its job write theirs
+abbrev pub lines_of : NodeForm → Results → List ℕ
+lines_of job results = node_text job.names job.plan job.me job.view results
 
 -- The net gave a fresh link to each peer, and steady ones where it is steady. Over them the run of each node with this
 -- part, and there is one, comes to the result, and the net has them back.
@@ -69,13 +64,13 @@ pub record HearsAllQuietly (job : NodeForm) (before after : Outside) : Type 0 wh
 
 -- The net is steady and expects this meeting, the spawner is steady and can count one more refusal, each inlet holds
 -- all that is expected of its peer, each outlet has room for the talk, and `out` for the lines of what is read.
-pub record LetsTalk (asked : NodeAsked) (before : Outside) : Type 0 where
+pub record LetsTalk (job : NodeForm) (before : Outside) : Type 0 where
   pub net : IsTrue before.net.steady
-  pub expects : before.net.expects ≡ Some (meeting_of asked.job)
+  pub expects : before.net.expects ≡ Some (meeting_of job)
   pub spawner : IsTrue before.spawner.steady
   pub few : before.spawner.refusals < last_count
-  pub hears : (n : Node) → IsNodeOf (node_part asked.job) n → HearsAll n (offered asked.job before)
-  pub room : (n : Node) → IsNodeOf (node_part asked.job) n → (q : ℕ) → IsPeer n q
-      → talk_bytes n q ≤ (out_to n (offered asked.job before) q).room
-  pub lines : (n : Node) (got : Key → ℕ) (results : Results) → IsNodeOf (node_part asked.job) n → IsDone n got results
-      → length (lines_of asked results) ≤ before.out.room
+  pub hears : (n : Node) → IsNodeOf (node_part job) n → HearsAll n (offered job before)
+  pub room : (n : Node) → IsNodeOf (node_part job) n → (q : ℕ) → IsPeer n q
+      → talk_bytes n q ≤ (out_to n (offered job before) q).room
+  pub lines : (n : Node) (got : Key → ℕ) (results : Results) → IsNodeOf (node_part job) n → IsDone n got results
+      → length (lines_of job results) ≤ before.out.room

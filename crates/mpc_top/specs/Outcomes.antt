@@ -12,13 +12,14 @@ use Rattle.node_talk.specs.Runs.{Results}
 use Rattle.job_walk.specs.declared.stop.Stop.{Stop}
 use Rattle.job_walk.specs.declared.stop.Stop.TheVariants.{Words, Refused, Covering, Files, Out, Net, Peer, Memory}
 use Rattle.job_walk.specs.Stops.{status_of}
+use Rattle.job_walk.specs.NodeOf.{NodeForm}
 use Rattle.job_walk.specs.Verdict.{Verdict, accepted, missing, refused}
 use Rattle.job_walk.specs.Reads.{KeepsFiles}
 use Rattle.mpc_top.specs.Texts.{files_fault_line, net_fault_line, out_fault_line, usage_text}
 use Rattle.mpc_top.specs.Outside.{Outside, outside_of, LeavesNet, LeavesAll, KeepsNet, KeepsSpawner}
 use Rattle.mpc_top.specs.Due.{Due, text, talk, Suits, IsDue}
 use Rattle.mpc_top.specs.FilesDue.{asking_of, AsksForAll, AsksInOrder, AsksLast}
-use Rattle.mpc_top.specs.NodeTalks.{NodeAsked, lines_of, Talks, MeetsNobody}
+use Rattle.mpc_top.specs.NodeTalks.{lines_of, Talks, MeetsNobody}
 use Rattle.mpc_top.specs.HiddenInputs.{CommandHides}
 
 -- the text of each cause, for `err`
@@ -35,16 +36,16 @@ text_of Memory = []
 -- what is due was given: its text was written to `out`, or it talked to the end, and its lines were written
 abbrev pub Fulfils : Due → Outside → Outside → Type 0
 Fulfils (text due) before after = Writes due before.out after.out (Ok tt) × LeavesNet before after
-Fulfils (talk asked) before after =
-    (results : Results) × Talks asked.job before after (Ok results)
-    × Writes (lines_of asked results) before.out after.out (Ok tt)
+Fulfils (talk job) before after =
+    (results : Results) × Talks job before after (Ok results)
+    × Writes (lines_of job results) before.out after.out (Ok tt)
 
 -- `out` failed to take its text
 abbrev pub CutShort : Due → Outside → Outside → Type 0
 CutShort (text due) before after = FailsToWrite due before.out after.out × LeavesNet before after
-CutShort (talk asked) before after =
-    (results : Results) × Talks asked.job before after (Ok results)
-    × FailsToWrite (lines_of asked results) before.out after.out
+CutShort (talk job) before after =
+    (results : Results) × Talks job before after (Ok results)
+    × FailsToWrite (lines_of job results) before.out after.out
 
 -- memory ran out: nothing went to `out`, nothing was said to a peer, and the net has what it had to offer
 pub record RunsOut (before after : Outside) : Type 0 where
@@ -78,11 +79,11 @@ module _ (command : Option CommandForm) (before after : Outside) where
   HasCause (Files name) = FailsAt name.items × LeavesAll before after
   HasCause Out = (due : Due) × Finds (accepted due) × CutShort due before after
   HasCause Net =
-      (asked : NodeAsked) × Finds (accepted (talk asked)) × MeetsNobody asked.job before after
+      (job : NodeForm) × Finds (accepted (talk job)) × MeetsNobody job before after
       × (after.out ≡ before.out)
   HasCause (Peer names fault) =
-      (asked : NodeAsked) × Finds (accepted (talk asked)) × (names ≡ asked.job.names)
-      × Talks asked.job before after (Err fault)
+      (job : NodeForm) × Finds (accepted (talk job)) × (names ≡ job.names)
+      × Talks job before after (Err fault)
       × (after.out ≡ before.out)
   HasCause Memory = IsSome command × RunsOut before after
 

@@ -20,13 +20,11 @@ use party_file::PartyData;
 use party_set::Names;
 use std::sync::Wait;
 
-/// What is asked of a node: to run the party of this name in the job of this folder, and to write its view as well,
-/// where `view` is true.
+/// What is asked of a node: to run the party of this name in the job of this folder.
 #[derive(Clone, Copy)]
 pub(crate) struct NodeCall<'a> {
     pub(crate) dir: &'a str,
     pub(crate) name: &'a str,
-    pub(crate) view: bool,
 }
 
 // Runs a party over its links, which the net has back.
@@ -74,7 +72,7 @@ fn write_outcome<O: Sink>(
 }
 
 /// Runs the party that is asked for, over links that the net gives and has back, and writes the outputs that it reads
-/// and, if that is asked for, its own view. All memory is taken before the first byte goes to a peer.
+/// and, if the nodes of its job write theirs, its own view. All memory is taken before the first byte goes to a peer.
 pub(crate) fn run_node<F: Files, O: Sink, N: Net, W: Spawner<LinkReader<N::In>>, P, R: Wait>(
     means: &Means<'_, P, R>,
     files: &mut F,
@@ -85,7 +83,7 @@ pub(crate) fn run_node<F: Files, O: Sink, N: Net, W: Spawner<LinkReader<N::In>>,
 ) -> Result<(), Stop>
 where
     N::In: Drop,
-    ensures { (err err' : SinkReading) → RunsWords (Some (node asked.now.dir.now asked.now.name.now asked.now.view))
+    ensures { (err err' : SinkReading) → RunsWords (Some (node asked.now.dir.now asked.now.name.now))
         (outside_of (F.reading files.old) (O.reading out.old) err (N.reading net.old) (W.reading spawner.old))
         (outside_of (F.reading files.new) (O.reading out.new) err' (N.reading net.new) (W.reading spawner.new)) result }
 {
@@ -95,6 +93,8 @@ where
         names,
         hosts,
         port,
+        form,
+        view,
         me,
         plan,
         given,
@@ -102,7 +102,7 @@ where
     } = job;
     let PartyData { inputs, tapes } = given;
     // What is done with is let go by calls, each of which is one step of the proof.
-    let ready = match NodeReady::make(alloc, &plan, me, &inputs, tapes, &digest) {
+    let ready = match NodeReady::make(alloc, &plan, me, &inputs, tapes, &digest, form) {
         Ok(ready) => ready,
         Err(_) => {
             drop((inputs, plan, hosts, names));
@@ -121,7 +121,7 @@ where
         }
     };
     let outcome = talk(means.threads, net, spawner, &plan, ready, links);
-    let result = write_outcome(out, names, &plan, me, asked.view, outcome);
+    let result = write_outcome(out, names, &plan, me, view, outcome);
     drop((inputs, plan, hosts));
     result
 }

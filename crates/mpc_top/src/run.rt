@@ -50,8 +50,8 @@ where
         (outside_of (F.reading files.new) (O.reading out.new) err' (N.reading net.new) (W.reading spawner.new)) result }
 {
     match command {
-        Command::Node { dir, name, view } => {
-            let asked = NodeCall { dir, name, view };
+        Command::Node { dir, name } => {
+            let asked = NodeCall { dir, name };
             run_node(means, files, out, net, spawner, &asked)
         }
         alone => run_alone(means, files, out, alone),

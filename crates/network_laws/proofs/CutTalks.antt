@@ -25,23 +25,21 @@ use Rattle.program_laws.proofs.Ranks.{batches_post_first}
 use Rattle.network_laws.proofs.EarlierTakes.{posts_world}
 use Rattle.std.proofs.lemmas.List.{get_or_past}
 use Rattle.outer_io.specs.Sink.{added, AddedPrefix}
-use Rattle.frame_code.specs.Frames.{hello, frame}
-use Rattle.frame_code.proofs.ReadFrames.{word_in, word_back, length-hello}
-use Rattle.node_talk.specs.declared.fault.NodeFault.{NodeFault}
-use Rattle.node_talk.specs.declared.fault.NodeFault.TheVariants.{NoThread}
+use Rattle.frame_code.specs.declared.framing.Framing.{Framing}
+use Rattle.frame_code.specs.Frames.{hello, frame, frame_bytes}
+use Rattle.frame_code.proofs.ReadFrames.{some_bytes, word_in, word_back, length-hello}
 use Rattle.node_talk.specs.Talks.{Node, acts, Stays, messages_between, frames, stream, talk, said, posts_to, post_to, place_of, IsRun}
 use Rattle.node_talk.specs.PeerLinks.{out_to}
-use Rattle.node_talk.specs.Runs.{BrokeOff}
 use Rattle.node_talk.proofs.PassedLists.{take_place}
 use Rattle.node_talk.proofs.MessageOrder.{posts_are_all, gather_prefix}
-use Rattle.node_talk.proofs.Frames.{stream_length, strip, small_64}
+use Rattle.node_talk.proofs.Frames.{stream_length, strip}
 use Rattle.node_talk.proofs.ExpectedPlaces.{placed, expected_there, between_parties}
 use Rattle.node_talk.proofs.ActPlaces.{act_there, before_session, at_act, within_acts, posted_there, posted_before_take, taken_there}
 use Rattle.node_talk.proofs.RightRuns.{got_world, is_of_world, kept_as_sent}
 use Rattle.node_talk.proofs.KeptViews.{own_view}
 use Rattle.network_laws.specs.Networks.{Network, node, RanThrough, IsNetwork, SaysWorld, IsRight}
-use Rattle.network_laws.proofs.RunsAsShort.{run_of_all, run_broke, part_of_more, part_of_talk}
-use Rattle.network_laws.proofs.FirstParts.{frames_begin, cut_after, cut_frames, short_take, long_take, posted_before}
+use Rattle.network_laws.proofs.RunsAsShort.{CutShort, cut_short, run_of_all, run_broke, part_of_more, part_of_talk}
+use Rattle.network_laws.proofs.FirstParts.{less_by, below_by, frames_begin, cut_after, cut_frames, short_take, long_take, posted_before}
 
 module _ (net : Network) (h : IsNetwork net) where
   abbrev w : World
@@ -49,6 +47,10 @@ module _ (net : Network) (h : IsNetwork net) where
 
   abbrev plan : Plan
   plan = net.world.plan
+
+  -- how messages are framed
+  abbrev fr : Framing
+  fr = record { form = net.form; bits = net.world.plan.bits }
 
   -- the messages from p to q
   abbrev keys : ℕ → ℕ → List Key
@@ -63,12 +65,13 @@ module _ (net : Network) (h : IsNetwork net) where
   part : (p : ℕ) → p < plan.parties → IsPart net.world p
   part p lp = part_of w h.whole p lp
 
-  any_run : (p : ℕ) → p < plan.parties → (fault : NodeFault) × (got : Key → ℕ) × BrokeOff (node net p) got (net.before p) (net.after p) fault
-  any_run p lp = ⊎_elim (λ (r : RanThrough net p). (NoThread p, r.got, run_broke (node net p) (part p lp) r.got (net.before p) (net.after p) r.talked (net.results p) r.done (NoThread p))) (λ b. (b.fault, b.got, b.broke)) (h.runs p lp)
+  any_run : (p : ℕ) → p < plan.parties → (got : Key → ℕ) × CutShort (node net p) got (net.before p) (net.after p)
+  any_run p lp = ⊎_elim (λ (r : RanThrough net p). (r.got, run_broke (node net p) (part p lp) r.got (net.before p) (net.after p) r.talked (net.results p) r.done))
+      (λ b. (b.got, cut_short (node net p) b.got (net.before p) (net.after p) b.fault b.broke)) (h.runs p lp)
 
-  got_of : (p : ℕ) → (got : Key → ℕ) × (p < plan.parties → (fault : NodeFault) × BrokeOff (node net p) got (net.before p) (net.after p) fault)
+  got_of : (p : ℕ) → (got : Key → ℕ) × (p < plan.parties → CutShort (node net p) got (net.before p) (net.after p))
   got_of p = elim (cases_lt p plan.parties) [
-    | left' lp ↦ let r = any_run p lp in (r.1, λ l. (r.0, r.2))
+    | left' lp ↦ let r = any_run p lp in (r.0, λ l. r.1)
     | right' past ↦ (λ key. 0, λ l. absurd (omega arith))
   ]
 
@@ -78,11 +81,8 @@ module _ (net : Network) (h : IsNetwork net) where
   abbrev own : ℕ → Key → ℕ
   own p = local_word net.world ((got_of p).0) p
 
-  fault : (p : ℕ) → p < plan.parties → NodeFault
-  fault p lp = ((got_of p).1 lp).0
-
-  broke : (p : ℕ) (lp : p < plan.parties) → BrokeOff (node net p) (got p) (net.before p) (net.after p) (((got_of p).1 lp).0)
-  broke p lp = ((got_of p).1 lp).1
+  broke : (p : ℕ) (lp : p < plan.parties) → CutShort (node net p) (got p) (net.before p) (net.after p)
+  broke p lp = (got_of p).1 lp
 
   -- what was said by the first instructions is a first part of the talk
   told : (p q : ℕ) (lp : p < plan.parties) → q < plan.parties → p ≢ q → AddedPrefix (out_to (node net p) (net.before p) q).told (talk (node net p) q (own p)) (out_to (node net p) (net.after p) q).told
@@ -104,21 +104,21 @@ module _ (net : Network) (h : IsNetwork net) where
       some_same xs ys e = cc
 
   -- the frames that q holds of p are those of p's own words
-  same_as_own : (p q : ℕ) (lp : p < plan.parties) (lq : q < plan.parties) (ne : p ≢ q) (f : ℕ) (word' : Key → ℕ) → IsRun (node net q) p (h.pipes p q lp lq ne).held f word' → AllByRecursion (λ key. frame key (word' key) ≡ frame key (own p key)) (take f (keys p q))
+  same_as_own : (p q : ℕ) (lp : p < plan.parties) (lq : q < plan.parties) (ne : p ≢ q) (f : ℕ) (word' : Key → ℕ) → IsRun (node net q) p (h.pipes p q lp lq ne).held f word' → AllByRecursion (λ key. frame fr key (word' key) ≡ frame fr key (own p key)) (take f (keys p q))
   same_as_own p q lp lq ne f word' run =
       let pipe = h.pipes p q lp lq ne in
       let start : List ℕ = hello p q net.digest in
       let text : List ℕ = talk (node net p) q (own p) in
       let t = first_part p q lp lq ne text (told p q lp lq ne) in
-      let front : List ℕ = frames word' (take f (keys p q)) in
-      let whole : start ++ (front ++ (run.begins.0 ++ (pipe.lost ++ drop t.0 text))) ≡ start ++ frames (own p) (keys p q) =
+      let front : List ℕ = frames fr word' (take f (keys p q)) in
+      let whole : start ++ (front ++ (run.begins.0 ++ (pipe.lost ++ drop t.0 text))) ≡ start ++ frames fr (own p) (keys p q) =
       sym (
       ap (λ z. (z ++ pipe.lost) ++ drop t.0 text) run.begins.1
       ∙ append_assoc ((start ++ front) ++ run.begins.0) pipe.lost (drop t.0 text)
       ∙ append_assoc (start ++ front) run.begins.0 (pipe.lost ++ drop t.0 text)
       ∙ append_assoc start front (run.begins.0 ++ (pipe.lost ++ drop t.0 text)))
       ∙ ap (λ z. z ++ drop t.0 text) t.1 ∙ take-append-drop t.0 text in
-      frames_begin word' (own p) (keys p q) f (run.begins.0 ++ (pipe.lost ++ drop t.0 text)) run.count (strip start _ _ whole)
+      frames_begin fr word' (own p) (keys p q) f (run.begins.0 ++ (pipe.lost ++ drop t.0 text)) run.count (strip start _ _ whole)
 
   -- ---- the world's words, session by session and then slot by slot
 
@@ -154,7 +154,7 @@ module _ (net : Network) (h : IsNetwork net) where
 
   -- what was said before a position is shorter than a frame that is posted there or later
   too_late : (p q : ℕ) (lp : p < plan.parties) (lq : q < plan.parties) (ne : p ≢ q) (j m u : ℕ) (lm : m < length (messages plan)) → j < length (keys p q) → message plan m ≡ key_at p q j
-      → 38 + 18 * j < length (taken p q lp lq ne) → u ≤ (once plan m valid lm).posted.position → u ≤ length (program plan p (message plan m).session)
+      → 38 + frame_bytes fr * j < length (taken p q lp lq ne) → u ≤ (once plan m valid lm).posted.position → u ≤ length (program plan p (message plan m).session)
       → before_session (node net p) (message plan m).session + u < length (acts (node net p))
       → AddedPrefix (out_to (node net p) (net.before p) q).told (said (node net p) q (own p) (before_session (node net p) (message plan m).session + u)) (out_to (node net p) (net.after p) q).told → ⊥
   too_late p q lp lq ne j m u lm lj is long late lu lk cut =
@@ -164,8 +164,8 @@ module _ (net : Network) (h : IsNetwork net) where
       let text : List ℕ = said n q (own p) k in
       let t = first_part p q lp lq ne text cut in
       let most : length (taken p q lp lq ne) ≤ length text = subst (λ z. length z ≤ length text) (sym t.1) (short_take t.0 text) in
-      let count : length text ≡ 38 + 18 * length posts = stream_length net.digest p q (own p) posts h.digest in
-      let inside' : j < length posts = omega arith in
+      let count : length text ≡ 38 + frame_bytes fr * length posts = stream_length fr net.digest p q (own p) posts h.digest in
+      let inside' : j < length posts = less_by (frame_bytes fr) j (length posts) (omega arith) in
       let r = gather_prefix (post_to plan q) (acts n) k (length (acts n)) (omega arith) in
       let split : keys p q ≡ posts ++ r.0 = sym (posts_are_all n q) ∙ r.1 in
       let place : slice_index_or posts j no_key ≡ key_at p q j = sym (ap (λ z. slice_index_or z j no_key) split ∙ get_or-append posts r.0 no_key j inside') in
@@ -231,7 +231,7 @@ module _ (net : Network) (h : IsNetwork net) where
 
   -- the message at a place is p's own word, if so much was taken
   own_right : (p q : ℕ) (lp : p < plan.parties) (lq : q < plan.parties) (ne : p ≢ q) (j : ℕ) → RightBefore (key_at p q j).session (key_at p q j).slot → j < length (keys p q)
-      → 38 + 18 * j < length (taken p q lp lq ne) → own p (key_at p q j) ≡ word w (key_at p q j)
+      → 38 + frame_bytes fr * j < length (taken p q lp lq ne) → own p (key_at p q j) ≡ word w (key_at p q j)
   own_right p q lp lq ne j before lj long =
       let is : message plan m ≡ key_at p q j = (expected_there (node net q) p j lj).same in
       subst (λ z. own p z ≡ word w z) is (posts_world w h.whole session' p (once plan m valid lm).session_there lp (got p) m (message plan m).share position stands got_before)
@@ -272,13 +272,13 @@ module _ (net : Network) (h : IsNetwork net) where
           ]
 
   -- so many bytes are held where a run of f frames is
-  long_enough : (p q : ℕ) (lp : p < plan.parties) (lq : q < plan.parties) (ne : p ≢ q) (f : ℕ) (word' : Key → ℕ) → IsRun (node net q) p (h.pipes p q lp lq ne).held f word' → 38 + 18 * f ≤ length (taken p q lp lq ne)
+  long_enough : (p q : ℕ) (lp : p < plan.parties) (lq : q < plan.parties) (ne : p ≢ q) (f : ℕ) (word' : Key → ℕ) → IsRun (node net q) p (h.pipes p q lp lq ne).held f word' → 38 + frame_bytes fr * f ≤ length (taken p q lp lq ne)
   long_enough p q lp lq ne f word' run =
       let pipe = h.pipes p q lp lq ne in
       let first : List Key = take f (keys p q) in
-      let few : length first ≡ f = length-take-le f (keys p q) run.count in
-      let all : length pipe.held ≡ 38 + 18 * length first + length run.begins.0 =
-      ap length run.begins.1 ∙ length-append (stream net.digest p q word' first) run.begins.0 ∙ ap (λ z. z + length run.begins.0) (stream_length net.digest p q word' first h.digest) in
+      let few : frame_bytes fr * length first ≡ frame_bytes fr * f = ap (λ z. frame_bytes fr * z) (length-take-le f (keys p q) run.count) in
+      let all : length pipe.held ≡ 38 + frame_bytes fr * length first + length run.begins.0 =
+      ap length run.begins.1 ∙ length-append (stream fr net.digest p q word' first) run.begins.0 ∙ ap (λ z. z + length run.begins.0) (stream_length fr net.digest p q word' first h.digest) in
       let sum = length-append pipe.held pipe.lost in
       omega arith
 
@@ -287,13 +287,13 @@ module _ (net : Network) (h : IsNetwork net) where
       let key : Key = key_at p q j in
       let lj : j < length (keys p q) = (let c = run.count in omega arith) in
       let before' : RightBefore key.session key.slot = subst (λ z. RightBefore z key.slot) (sym session) (subst (RightBefore s) (sym slot) before) in
-      let o = own_right p q lp lq ne j before' lj (let l = long_enough p q lp lq ne f word' run in omega arith) in
+      let o = own_right p q lp lq ne j before' lj (let l = long_enough p q lp lq ne f word' run in let more = below_by (frame_bytes fr) j f lf in let some = some_bytes fr in omega (arith, l, more, some)) in
       let few : length (take f (keys p q)) ≡ f = length-take-le f (keys p q) run.count in
       let place : slice_index_or (take f (keys p q)) j no_key ≡ key = take_place (keys p q) f j no_key lf in
-      let same : frame key (word' key) ≡ frame key (own p key) = subst (λ z. frame z (word' z) ≡ frame z (own p z)) place (every_place (λ z. frame z (word' z) ≡ frame z (own p z)) (take f (keys p q)) j no_key (same_as_own p q lp lq ne f word' run) (omega arith)) in
+      let same : frame fr key (word' key) ≡ frame fr key (own p key) = subst (λ z. frame fr z (word' z) ≡ frame fr z (own p z)) place (every_place (λ z. frame fr z (word' z) ≡ frame fr z (own p z)) (take f (keys p q)) j no_key (same_as_own p q lp lq ne f word' run) (omega arith)) in
       let small : word' key < 2 ^ plan.bits = subst (λ z. word' z < 2 ^ plan.bits) place (every_place (λ z. word' z < 2 ^ plan.bits) (take f (keys p q)) j no_key run.small (omega arith)) in
-      sym (word_back key (word' key) [] (small_64 plan.bits (word' key) h.whole.sound.bits small)) ∙ ap (λ z. word_in (z ++ [])) same
-      ∙ word_back key (own p key) [] (small_64 plan.bits (own p key) h.whole.sound.bits (subst (λ z. z < 2 ^ plan.bits) (sym o) (small_word w h.whole key))) ∙ o
+      sym (word_back fr key (word' key) [] h.whole.sound.bits small) ∙ ap (λ z. word_in fr (z ++ [])) same
+      ∙ word_back fr key (own p key) [] h.whole.sound.bits (subst (λ z. z < 2 ^ plan.bits) (sym o) (small_word w h.whole key)) ∙ o
 
   kept_right : (s k : ℕ) → RightBefore s k → KeptRight s k
   kept_right s k before p lp m lm stays session slot j i less is =
@@ -341,7 +341,7 @@ module _ (net : Network) (h : IsNetwork net) where
 
   -- ---- what an outlet took begins what its party says in the world
 
-  own_said : (p q : ℕ) (lp : p < plan.parties) (lq : q < plan.parties) (ne : p ≢ q) (j : ℕ) → j < length (keys p q) → 38 + 18 * j < length (taken p q lp lq ne) → own p (key_at p q j) ≡ word w (key_at p q j)
+  own_said : (p q : ℕ) (lp : p < plan.parties) (lq : q < plan.parties) (ne : p ≢ q) (j : ℕ) → j < length (keys p q) → 38 + frame_bytes fr * j < length (taken p q lp lq ne) → own p (key_at p q j) ≡ word w (key_at p q j)
   own_said p q lp lq ne j lj long = own_right p q lp lq ne j (right_before (key_at p q j).session (key_at p q j).slot) lj long
 
   pub says_world : SaysWorld net
@@ -350,10 +350,10 @@ module _ (net : Network) (h : IsNetwork net) where
       let start : List ℕ = hello p q net.digest in
       let text : List ℕ = talk (node net p) q (own p) in
       let t = first_part p q lp lq ne text (told p q lp lq ne) in
-      let count : length text ≡ 38 + 18 * length (keys p q) = stream_length net.digest p q (own p) (keys p q) h.digest in
+      let count : length text ≡ 38 + frame_bytes fr * length (keys p q) = stream_length fr net.digest p q (own p) (keys p q) h.digest in
       let same : take t.0 text ≡ take t.0 (talk (node net p) q (word w)) =
-      cut_after start (frames (own p) (keys p q)) (frames (word w) (keys p q)) t.0 (λ n is.
-      cut_frames (own p) (word w) (keys p q) n (λ j lj less. own_said p q lp lq ne j lj (long_take (taken p q lp lq ne) text t.0 (38 + 18 * j) t.1 (let l = length-hello p q net.digest h.digest in omega arith) (omega arith)))) in (
+      cut_after start (frames fr (own p) (keys p q)) (frames fr (word w) (keys p q)) t.0 (λ n is.
+      cut_frames fr (own p) (word w) (keys p q) n (λ j lj less. own_said p q lp lq ne j lj (long_take (taken p q lp lq ne) text t.0 (38 + frame_bytes fr * j) t.1 (let l = length-hello p q net.digest h.digest in omega (arith, l, is, less)) (let more = below_by (frame_bytes fr) j (length (keys p q)) lj in let some = some_bytes fr in omega (arith, count, more, some))))) in (
         t.0,
         pipe.after ∙ ap (λ z. Some (pipe.earlier ++ z)) (t.1 ∙ same) ∙ sym (ap (λ z. added z (take t.0 (talk (node net p) q (word w)))) pipe.before),
       )

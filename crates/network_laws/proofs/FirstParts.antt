@@ -5,6 +5,7 @@ use Rattle.std.specs.List.{flat_map, AllByRecursion}
 use Rattle.std.proofs.lemmas.Bool.{cases_eq, cases_lt}
 use Rattle.std.proofs.lemmas.List.{length-take}
 use Rattle.std.proofs.lemmas.Grind.{flat_map-append}
+use Rattle.std.proofs.lemmas.Nat.{mul-le}
 use mathlib.Core.Logic.{inl as left', inr as right'}
 use Rattle.list_laws.specs.Lists.{joined}
 use Rattle.list_laws.proofs.JoinedLists.{every_append, every_joined, every_only_if}
@@ -14,7 +15,8 @@ use Rattle.job_plan.specs.Numbers.{message, no_key}
 use Rattle.party_program.specs.declared.program.Instruction.{Instruction}
 use Rattle.party_program.specs.declared.program.Instruction.TheVariants.{Post, End}
 use Rattle.party_program.specs.Programs.{program, at, to}
-use Rattle.frame_code.specs.Frames.{frame}
+use Rattle.frame_code.specs.declared.framing.Framing.{Framing}
+use Rattle.frame_code.specs.Frames.{frame, frame_bytes}
 use Rattle.frame_code.proofs.ReadFrames.{length-frame}
 use Rattle.node_talk.specs.Talks.{Node, post_to, posts_to, frames}
 use Rattle.node_talk.proofs.MessageOrder.{flat_joined}
@@ -23,12 +25,12 @@ use Rattle.node_talk.proofs.ActPlaces.{joined_within, before_session}
 
 -- ---- frames
 
-pub frames_begin : (f g : Key → ℕ) (keys : List Key) (n : ℕ) (rest : List ℕ) → n ≤ length keys → frames f (take n keys) ++ rest ≡ frames g keys → AllByRecursion (λ key. frame key (f key) ≡ frame key (g key)) (take n keys)
-frames_begin f g keys zero rest l e = tt
-frames_begin f g [] (suc n) rest l e = absurd (omega arith)
-frames_begin f g (key ∷ keys) (suc n) rest l e =
-    let r = same_split (frame key (f key)) (frame key (g key)) (frames f (take n keys) ++ rest) (frames g keys) (length-frame key (f key) ∙ sym (length-frame key (g key))) (sym (append_assoc (frame key (f key)) (frames f (take n keys)) rest) ∙ e) in
-    (r.0, frames_begin f g keys n rest (omega arith) r.1)
+pub frames_begin : (r : Framing) (f g : Key → ℕ) (keys : List Key) (n : ℕ) (rest : List ℕ) → n ≤ length keys → frames r f (take n keys) ++ rest ≡ frames r g keys → AllByRecursion (λ key. frame r key (f key) ≡ frame r key (g key)) (take n keys)
+frames_begin r f g keys zero rest l e = tt
+frames_begin r f g [] (suc n) rest l e = absurd (omega arith)
+frames_begin r f g (key ∷ keys) (suc n) rest l e =
+    let s = same_split (frame r key (f key)) (frame r key (g key)) (frames r f (take n keys) ++ rest) (frames r g keys) (length-frame r key (f key) ∙ sym (length-frame r key (g key))) (sym (append_assoc (frame r key (f key)) (frames r f (take n keys)) rest) ∙ e) in
+    (s.0, frames_begin r f g keys n rest (omega arith) s.1)
 
 pub cut_after : (start a b : List ℕ) (x : ℕ) → ((n : ℕ) → x ≡ length start + n → take n a ≡ take n b) → take x (start ++ a) ≡ take x (start ++ b)
 cut_after [] a b x f = f x (omega arith)
@@ -36,13 +38,23 @@ cut_after (s ∷ start) a b zero f = refl
 cut_after (s ∷ start) a b (suc x) f = ap (λ z. s ∷ z) (cut_after start a b x (λ n e. f n (omega arith)))
 
 -- the first bytes of frames are the same where the words of the frames that they reach into are
-pub cut_frames : (f g : Key → ℕ) (keys : List Key) (n : ℕ) → ((j : ℕ) → j < length keys → 18 * j < n → f (slice_index_or keys j no_key) ≡ g (slice_index_or keys j no_key)) → take n (frames f keys) ≡ take n (frames g keys)
-cut_frames f g [] n same = refl
-cut_frames f g (key ∷ keys) n same = elim (cases_lt 0 n) [
-  | left' some ↦ ap (λ v. take n (frame key v ++ frames f keys)) (same 0 (omega arith) (omega arith))
-      ∙ cut_after (frame key (g key)) (frames f keys) (frames g keys) n (λ m is. cut_frames f g keys m (λ j lj less. same (suc j) (omega arith) (let l = length-frame key (g key) in omega arith)))
-  | right' none ↦ let e : n ≡ 0 = omega arith in subst (λ z. take z (frames f (key ∷ keys)) ≡ take z (frames g (key ∷ keys))) (sym e) refl
+pub cut_frames : (r : Framing) (f g : Key → ℕ) (keys : List Key) (n : ℕ) → ((j : ℕ) → j < length keys → frame_bytes r * j < n → f (slice_index_or keys j no_key) ≡ g (slice_index_or keys j no_key)) → take n (frames r f keys) ≡ take n (frames r g keys)
+cut_frames r f g [] n same = refl
+cut_frames r f g (key ∷ keys) n same = elim (cases_lt 0 n) [
+  | left' some ↦ ap (λ v. take n (frame r key v ++ frames r f keys)) (same 0 (omega arith) (omega arith))
+      ∙ cut_after (frame r key (g key)) (frames r f keys) (frames r g keys) n (λ m is. cut_frames r f g keys m (λ j lj less. same (suc j) (omega arith) (let l = length-frame r key (g key) in omega (arith, is, less, l))))
+  | right' none ↦ let e : n ≡ 0 = omega arith in subst (λ z. take z (frames r f (key ∷ keys)) ≡ take z (frames r g (key ∷ keys))) (sym e) refl
 ]
+
+-- places by the bytes before them
+pub less_by : (w a b : ℕ) → w * a < w * b → a < b
+less_by w a b l = elim (cases_lt a b) [
+  | left' is ↦ is
+  | right' past ↦ absurd (let m : w * b ≤ w * a = mul-le w b w a (omega arith) past in omega (arith, l, m))
+]
+
+pub below_by : (w a b : ℕ) → a < b → w * a + w ≤ w * b
+below_by w a b l = let m : w * (a + 1) ≤ w * b = mul-le w (a + 1) w b (omega arith) (omega (arith, l)) in omega (arith, m)
 
 pub short_take : (n : ℕ) (xs : List ℕ) → length (take n xs) ≤ length xs
 short_take zero xs = omega arith

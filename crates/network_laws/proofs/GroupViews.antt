@@ -12,40 +12,41 @@ use Rattle.job_plan.specs.Numbers.{no_key}
 use Rattle.share_world.specs.Worlds.{word, view}
 use Rattle.outer_io.specs.Inlet.{ahead}
 use Rattle.outer_io.specs.Sink.{added, AddedPrefix}
+use Rattle.frame_code.specs.declared.framing.Framing.{Framing}
 use Rattle.frame_code.specs.Frames.{hello, frame}
 use Rattle.node_talk.specs.Talks.{goes, frames, messages_between, talk, Begins}
 use Rattle.node_talk.specs.PeerLinks.{in_from, out_to}
 use Rattle.node_talk.proofs.PassedLists.{every_from_places}
 use Rattle.node_talk.proofs.Frames.{frames_eq, strip}
 use Rattle.network_laws.specs.Networks.{Network, plan_of, node, IsNetwork, AllRanThrough}
-use Rattle.network_laws.specs.Views.{IsSeen, SeesNoMore, on_wire}
+use Rattle.network_laws.specs.Views.{IsSeen, SeesNoMore, on_wire, framing_of}
 use Rattle.network_laws.proofs.CutTalks.{heard_right, is_right, says_world}
 
-module _ (p q : ℕ) (word : Key → ℕ) (group : ℕ) where
+module _ (r : Framing) (p q : ℕ) (word : Key → ℕ) (group : ℕ) where
   abbrev pub touches : Key → Bool
   touches key = has_party group key.sender || has_party group key.receiver
 
   abbrev pub seen : List Key → List (Key × ℕ)
   seen keys = map (λ key. (key, word key)) (filter touches keys)
 
-  pub view_frames : ((key : Key) → goes p q key ≡ true → touches key ≡ true) → (keys : List Key) → flat_map (λ (s : Key × ℕ). frame s.0 s.1) (filter (λ (s : Key × ℕ). goes p q s.0) (seen keys)) ≡ frames word (filter (goes p q) keys)
+  pub view_frames : ((key : Key) → goes p q key ≡ true → touches key ≡ true) → (keys : List Key) → flat_map (λ (s : Key × ℕ). frame r s.0 s.1) (filter (λ (s : Key × ℕ). goes p q s.0) (seen keys)) ≡ frames r word (filter (goes p q) keys)
   view_frames h [] = refl
   view_frames h (key ∷ keys) = elim (cases_Bool (goes p q key)) [
     | inl g ↦
-        ap (λ z. flat_map (λ (s : Key × ℕ). frame s.0 s.1) (filter (λ (s : Key × ℕ). goes p q s.0) (map (λ key. (key, word key)) z))) (cond-true (touches key) (key ∷ filter touches keys) (filter touches keys) (h key g))
-        ∙ ap (flat_map (λ (s : Key × ℕ). frame s.0 s.1)) (cond-true (goes p q key) ((key, word key) ∷ filter (λ (s : Key × ℕ). goes p q s.0) (seen keys)) (filter (λ (s : Key × ℕ). goes p q s.0) (seen keys)) g)
-        ∙ ap (λ z. frame key (word key) ++ z) (view_frames h keys)
-        ∙ sym (ap (frames word) (cond-true (goes p q key) (key ∷ filter (goes p q) keys) (filter (goes p q) keys) g))
+        ap (λ z. flat_map (λ (s : Key × ℕ). frame r s.0 s.1) (filter (λ (s : Key × ℕ). goes p q s.0) (map (λ key. (key, word key)) z))) (cond-true (touches key) (key ∷ filter touches keys) (filter touches keys) (h key g))
+        ∙ ap (flat_map (λ (s : Key × ℕ). frame r s.0 s.1)) (cond-true (goes p q key) ((key, word key) ∷ filter (λ (s : Key × ℕ). goes p q s.0) (seen keys)) (filter (λ (s : Key × ℕ). goes p q s.0) (seen keys)) g)
+        ∙ ap (λ z. frame r key (word key) ++ z) (view_frames h keys)
+        ∙ sym (ap (frames r word) (cond-true (goes p q key) (key ∷ filter (goes p q) keys) (filter (goes p q) keys) g))
     | inr g ↦ elim (cases_Bool (touches key)) [
       | inl t ↦
-          ap (λ z. flat_map (λ (s : Key × ℕ). frame s.0 s.1) (filter (λ (s : Key × ℕ). goes p q s.0) (map (λ key. (key, word key)) z))) (cond-true (touches key) (key ∷ filter touches keys) (filter touches keys) t)
-          ∙ ap (flat_map (λ (s : Key × ℕ). frame s.0 s.1)) (cond-false (goes p q key) ((key, word key) ∷ filter (λ (s : Key × ℕ). goes p q s.0) (seen keys)) (filter (λ (s : Key × ℕ). goes p q s.0) (seen keys)) g)
+          ap (λ z. flat_map (λ (s : Key × ℕ). frame r s.0 s.1) (filter (λ (s : Key × ℕ). goes p q s.0) (map (λ key. (key, word key)) z))) (cond-true (touches key) (key ∷ filter touches keys) (filter touches keys) t)
+          ∙ ap (flat_map (λ (s : Key × ℕ). frame r s.0 s.1)) (cond-false (goes p q key) ((key, word key) ∷ filter (λ (s : Key × ℕ). goes p q s.0) (seen keys)) (filter (λ (s : Key × ℕ). goes p q s.0) (seen keys)) g)
           ∙ view_frames h keys
-          ∙ sym (ap (frames word) (cond-false (goes p q key) (key ∷ filter (goes p q) keys) (filter (goes p q) keys) g))
+          ∙ sym (ap (frames r word) (cond-false (goes p q key) (key ∷ filter (goes p q) keys) (filter (goes p q) keys) g))
       | inr t ↦
-          ap (λ z. flat_map (λ (s : Key × ℕ). frame s.0 s.1) (filter (λ (s : Key × ℕ). goes p q s.0) (map (λ key. (key, word key)) z))) (cond-false (touches key) (key ∷ filter touches keys) (filter touches keys) t)
+          ap (λ z. flat_map (λ (s : Key × ℕ). frame r s.0 s.1) (filter (λ (s : Key × ℕ). goes p q s.0) (map (λ key. (key, word key)) z))) (cond-false (touches key) (key ∷ filter touches keys) (filter touches keys) t)
           ∙ view_frames h keys
-          ∙ sym (ap (frames word) (cond-false (goes p q key) (key ∷ filter (goes p q) keys) (filter (goes p q) keys) g))
+          ∙ sym (ap (frames r word) (cond-false (goes p q key) (key ∷ filter (goes p q) keys) (filter (goes p q) keys) g))
     ]
   ]
 
@@ -74,20 +75,20 @@ front_of earlier held lost text told told' before after (n, taken) =
 
 module _ (net : Network) (h : IsNetwork net) (group : ℕ) where
   -- what a party says over a wire of a member is what the view puts there
-  pub wire_is : (p q : ℕ) → ((key : Key) → goes p q key ≡ true → touches p q (word net.world) group key ≡ true)
-      → talk (node net p) q (word net.world) ≡ on_wire net.digest p q (view net.world group)
-  wire_is p q within = ap (λ z. hello p q net.digest ++ z) (sym (view_frames p q (word net.world) group within (messages net.world.plan)))
+  pub wire_is : (p q : ℕ) → ((key : Key) → goes p q key ≡ true → touches (framing_of net) p q (word net.world) group key ≡ true)
+      → talk (node net p) q (word net.world) ≡ on_wire (framing_of net) net.digest p q (view net.world group)
+  wire_is p q within = ap (λ z. hello p q net.digest ++ z) (sym (view_frames (framing_of net) p q (word net.world) group within (messages net.world.plan)))
 
   pub sees_no_more : SeesNoMore net group
   sees_no_more = record {
     said = λ p q lp lq ne member.
         subst (λ text. AddedPrefix (out_to (node net p) (net.before p) q).told text (out_to (node net p) (net.after p) q).told)
-        (wire_is p q (sent_by p q (word net.world) group member)) (says_world net h p q lp lq ne);
+        (wire_is p q (sent_by (framing_of net) p q (word net.world) group member)) (says_world net h p q lp lq ne);
     held = λ p q lp lq ne member.
         let pipe = h.pipes p q lp lq ne in (
           pipe.held,
           pipe.inlet,
-          subst (λ text. Begins text pipe.held) (wire_is p q (got_by p q (word net.world) group member))
+          subst (λ text. Begins text pipe.held) (wire_is p q (got_by (framing_of net) p q (word net.world) group member))
               (front_of pipe.earlier pipe.held pipe.lost (talk (node net p) q (word net.world)) _ _ pipe.before pipe.after (says_world net h p q lp lq ne)),
         );
   }
@@ -95,9 +96,9 @@ module _ (net : Network) (h : IsNetwork net) (group : ℕ) where
 -- ---- where all ran to their end
 
 module _ (net : Network) (h : IsNetwork net) (all : AllRanThrough net) (group : ℕ) where
-  heard_frames : (p q : ℕ) → p < (plan_of net).parties → (lq : q < (plan_of net).parties) → p ≢ q → frames (all q lq).got (messages_between net.world.plan p q) ≡ frames (word net.world) (messages_between net.world.plan p q)
+  heard_frames : (p q : ℕ) → p < (plan_of net).parties → (lq : q < (plan_of net).parties) → p ≢ q → frames (framing_of net) (all q lq).got (messages_between net.world.plan p q) ≡ frames (framing_of net) (word net.world) (messages_between net.world.plan p q)
   heard_frames p q lp lq ne =
-      frames_eq (all q lq).got (word net.world) (messages_between net.world.plan p q)
+      frames_eq (framing_of net) (all q lq).got (word net.world) (messages_between net.world.plan p q)
       (every_from_places (λ key. (all q lq).got key ≡ word net.world key) (messages_between net.world.plan p q) no_key (λ j lj. heard_right net h q lq (all q lq) p lp ne j lj))
 
   pub is_seen : IsSeen net group
@@ -105,9 +106,9 @@ module _ (net : Network) (h : IsNetwork net) (all : AllRanThrough net) (group : 
     said = λ p q lp lq ne member.
         (is_right net h p lp (all p lp)).of_world.told q (lq, λ e. ne (sym e))
         ∙ ap (λ z. added (out_to (node net p) (net.before p) q).told (hello p q net.digest ++ z))
-        (sym (view_frames p q (word net.world) group (sent_by p q (word net.world) group member) (messages net.world.plan)));
+        (sym (view_frames (framing_of net) p q (word net.world) group (sent_by (framing_of net) p q (word net.world) group member) (messages net.world.plan)));
     heard = λ p q lp lq ne member.
         (all q lq).talked.heard p (lp, ne)
         ∙ ap (λ z. ahead (hello p q net.digest ++ z) (in_from (node net q) (net.after q) p).told)
-        (heard_frames p q lp lq ne ∙ sym (view_frames p q (word net.world) group (got_by p q (word net.world) group member) (messages net.world.plan)));
+        (heard_frames p q lp lq ne ∙ sym (view_frames (framing_of net) p q (word net.world) group (got_by (framing_of net) p q (word net.world) group member) (messages net.world.plan)));
   }

@@ -9,15 +9,18 @@ use Rattle.share_world.specs.Laws.{IsWhole}
 use Rattle.outer_io.specs.Links.{LinksReading}
 use Rattle.outer_io.specs.Sink.{AddedPrefix}
 use Rattle.node_talk.specs.declared.fault.NodeFault.{NodeFault}
+use Rattle.frame_code.specs.declared.framing.FrameForm.{FrameForm}
 use Rattle.node_talk.specs.Talks.{Node, talk}
 use Rattle.node_talk.specs.PeerLinks.{in_from, out_to}
 use Rattle.node_talk.specs.Runs.{Results, IsDone, TalkedThrough, BrokeOff, IsOfWorld, word_kept, kept_view}
 use Rattle.party_set.specs.Parties.{party_mask}
 
--- a world and a digest; and of each party what its links show before its run and after it, and what it has then
+-- a world, a digest and a form of frames; and of each party what its links show before its run and after it, and what
+-- it has then
 pub record Network : Type 0 where
   pub world : World
   pub digest : List ℕ
+  pub form : FrameForm
   pub before : ℕ → LinksReading
   pub after : ℕ → LinksReading
   pub results : ℕ → Results
@@ -27,7 +30,7 @@ plan_of net = net.world.plan
 
 -- party p
 abbrev pub node : Network → ℕ → Node
-node net p = record { world = net.world; me = p; digest = net.digest }
+node net p = record { world = net.world; me = p; digest = net.digest; form = net.form }
 
 -- p's run ended well
 pub record RanThrough (net : Network) (p : ℕ) : Type 0 where

@@ -20,7 +20,8 @@ use Rattle.node_talk.specs.PeerLinks.{out_to}
 use Rattle.node_talk.specs.Talks.{goes}
 use Rattle.node_talk.proofs.Frames.{strip}
 use Rattle.network_laws.specs.Networks.{AllRanThrough, IsNetwork, Network, node, plan_of}
-use Rattle.network_laws.specs.Views.{on_wire}
+use Rattle.frame_code.specs.declared.framing.Framing.{Framing}
+use Rattle.network_laws.specs.Views.{on_wire, framing_of}
 use Rattle.network_laws.proofs.CutTalks.{is_right}
 use Rattle.network_laws.proofs.GroupViews.{got_by, sent_by, touches, wire_is}
 use Rattle.network_runs.specs.Wires.{Carries, CarriesTheView, WiresAreSimulated, by_wires, is_wire, wires_of}
@@ -37,18 +38,18 @@ apart group p q is e =
     ]
 
 -- what goes over it is in the view
-in_view : (group p q : ℕ) (w : World) → is_wire group p q ≡ true → (key : Key) → goes p q key ≡ true → touches p q (word w) group key ≡ true
-in_view group p q w is key g =
+in_view : (r : Framing) (group p q : ℕ) (w : World) → is_wire group p q ≡ true → (key : Key) → goes p q key ≡ true → touches r p q (word w) group key ≡ true
+in_view r group p q w is key g =
     elim (or_cases (has_party group p) (has_party group q) (and_parts (not (nat_eq p q)) (has_party group p || has_party group q) is).1) [
-      | inl sender ↦ sent_by p q (word w) group sender key g
-      | inr receiver ↦ got_by p q (word w) group receiver key g
+      | inl sender ↦ sent_by r p q (word w) group sender key g
+      | inr receiver ↦ got_by r p q (word w) group receiver key g
     ]
 
 pub carries_the_view : (net : Network) → IsNetwork net → AllRanThrough net → (group : ℕ) → CarriesTheView net group
 carries_the_view net h all group = record {
   took = λ p q lp lq is.
       (is_right net h p lp (all p lp)).of_world.told q (lq, λ e. apart group p q is (sym e))
-      ∙ ap (added (out_to (node net p) (net.before p) q).told) (wire_is net h group p q (in_view group p q net.world is));
+      ∙ ap (added (out_to (node net p) (net.before p) q).told) (wire_is net h group p q (in_view (framing_of net) group p q net.world is));
 }
 
 -- ---- what was carried is one text
@@ -62,10 +63,10 @@ one_text earlier a b told told' before first second =
 
 -- a text of a member's wire is the view's
 text_is : (net : Network) → IsNetwork net → AllRanThrough net → (group : ℕ) (text : ℕ → ℕ → List ℕ) → Carries net group text
-    → (p q : ℕ) → p < (plan_of net).parties → q < (plan_of net).parties → is_wire group p q ≡ true → text p q ≡ on_wire net.digest p q (view net.world group)
+    → (p q : ℕ) → p < (plan_of net).parties → q < (plan_of net).parties → is_wire group p q ≡ true → text p q ≡ on_wire (framing_of net) net.digest p q (view net.world group)
 text_is net h all group text carries p q lp lq is =
     let pipe = h.pipes p q lp lq (apart group p q is) in
-    one_text pipe.earlier (text p q) (on_wire net.digest p q (view net.world group)) _ _ pipe.before (carries.took p q lp lq is) ((carries_the_view net h all group).took p q lp lq is)
+    one_text pipe.earlier (text p q) (on_wire (framing_of net) net.digest p q (view net.world group)) _ _ pipe.before (carries.took p q lp lq is) ((carries_the_view net h all group).took p q lp lq is)
 
 -- texts that are the same on each wire
 same_wires : (plan : Plan) (group : ℕ) (first second : ℕ → ℕ → List ℕ) → ((p q : ℕ) → p < plan.parties → q < plan.parties → is_wire group p q ≡ true → first p q ≡ second p q)
@@ -90,14 +91,15 @@ count_same : {A : Type 0} (f g : A → Bool) (xs : List A) → ((x : A) → Cont
 count_same f g xs same = count_from f g 0 xs same
 
 pub simulated_wires : WiresAreSimulated
-simulated_wires w digest group nets texts whole tolerated are test =
-    count_same (λ tapes. test (by_wires w.plan group (texts tapes))) (λ tapes. test (wires_of w.plan digest group (view (with_tapes w tapes) group))) (choices w.plan group w.tapes) (λ tapes has.
+simulated_wires w form digest group nets texts whole tolerated are test =
+    count_same (λ tapes. test (by_wires w.plan group (texts tapes))) (λ tapes. test (wires_of w.plan form digest group (view (with_tapes w tapes) group))) (choices w.plan group w.tapes) (λ tapes has.
     let choice : IsChoice w group tapes = choices_are_tapes w group whole tapes has in
     let net : Network = nets tapes in
     let of : net.world ≡ with_tapes w tapes = are.worlds tapes choice in
     let plan : net.world.plan ≡ w.plan = ap (λ (u : World). u.plan) of in
-    ap test (same_wires w.plan group (texts tapes) (λ p q. on_wire digest p q (view (with_tapes w tapes) group)) (λ p q lp lq is.
+    ap test (same_wires w.plan group (texts tapes) (λ p q. on_wire (record { form = form; bits = w.plan.bits }) digest p q (view (with_tapes w tapes) group)) (λ p q lp lq is.
     text_is net (are.networks tapes choice) (are.ended tapes choice) group (texts tapes) (are.carried tapes choice) p q (subst (λ (plan : Plan). p < plan.parties) (sym plan) lp) (subst (λ (plan : Plan). q < plan.parties) (sym plan) lq) is
-    ∙ ap (λ d. on_wire d p q (view net.world group)) (are.digests tapes choice)
-    ∙ ap (λ (u : World). on_wire digest p q (view u group)) of)))
-    ∙ sym (is_simulated w group whole tolerated (λ seen. test (wires_of w.plan digest group seen)))
+    ∙ ap (λ f. on_wire (record { form = f; bits = net.world.plan.bits }) net.digest p q (view net.world group)) (are.forms tapes choice)
+    ∙ ap (λ d. on_wire (record { form = form; bits = net.world.plan.bits }) d p q (view net.world group)) (are.digests tapes choice)
+    ∙ ap (λ (u : World). on_wire (record { form = form; bits = u.plan.bits }) digest p q (view u group)) of)))
+    ∙ sym (is_simulated w group whole tolerated (λ seen. test (wires_of w.plan form digest group seen)))

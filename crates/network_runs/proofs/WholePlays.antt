@@ -16,6 +16,7 @@ use Rattle.share_world.specs.Worlds.{World, plain, word}
 use Rattle.share_world.specs.Laws.{IsWhole}
 use Rattle.share_world.proofs.SentWords.{opened_are_plain}
 use Rattle.share_world.proofs.SmallWords.{is_world, small_word}
+use Rattle.frame_code.specs.declared.framing.FrameForm.{FrameForm}
 use Rattle.outer_io.specs.Inlet.{InletReading, ahead, shut_inlet}
 use Rattle.outer_io.specs.Outlet.{OutletReading, shut_outlet}
 use Rattle.outer_io.specs.Links.{LinksReading}
@@ -48,9 +49,9 @@ place_within parties p q lp lq ne = place_below p q parties (parties - 1) lq ne 
 party_there : (p q : ℕ) → q ≢ p → party_at p (place_among p q) ≡ q
 party_there p q ne = grind (arith, nat_tests)
 
-module _ (w : World) (digest : List ℕ) (p : ℕ) (lp : p < w.plan.parties) (inlet : ℕ → InletReading) (outlet : ℕ → OutletReading) (q : ℕ) (lq : q < w.plan.parties) (ne : q ≢ p) where
+module _ (w : World) (digest : List ℕ) (form : FrameForm) (p : ℕ) (lp : p < w.plan.parties) (inlet : ℕ → InletReading) (outlet : ℕ → OutletReading) (q : ℕ) (lq : q < w.plan.parties) (ne : q ≢ p) where
   abbrev n : Node
-  n = record { world = w; me = p; digest = digest }
+  n = record { world = w; me = p; digest = digest; form = form }
 
   inlet_is : in_from n (links_by w p inlet outlet) q ≡ inlet q
   inlet_is = listed_at (w.plan.parties - 1) (λ k. inlet (party_at p k)) (place_among p q) no_inlet (place_within w.plan.parties p q lp lq ne) ∙ ap inlet (party_there p q ne)
@@ -61,9 +62,9 @@ module _ (w : World) (digest : List ℕ) (p : ℕ) (lp : p < w.plan.parties) (in
 
 -- ---- a party's results
 
-module _ (w : World) (whole : IsWhole w) (digest : List ℕ) (p : ℕ) (lp : p < w.plan.parties) where
+module _ (w : World) (whole : IsWhole w) (digest : List ℕ) (form : FrameForm) (p : ℕ) (lp : p < w.plan.parties) where
   abbrev me : Node
-  me = record { world = w; me = p; digest = digest }
+  me = record { world = w; me = p; digest = digest; form = form }
 
   abbrev kept : ℕ → Option ℕ
   kept m = if nat_eq (message w.plan m).sender p || nat_eq (message w.plan m).receiver p then Some (word w (message w.plan m)) else None
@@ -125,16 +126,16 @@ module _ (w : World) (whole : IsWhole w) (digest : List ℕ) (p : ℕ) (lp : p <
   -- ---- its links
 
   abbrev inlets_before : ℕ → InletReading
-  inlets_before q = inlet_with (words_between w digest q p)
+  inlets_before q = inlet_with (words_between w digest form q p)
 
   abbrev outlets_before : ℕ → OutletReading
-  outlets_before q = outlet_with [] (words_between w digest p q)
+  outlets_before q = outlet_with [] (words_between w digest form p q)
 
   abbrev inlets_after : ℕ → InletReading
   inlets_after q = shut_inlet (inlet_with [])
 
   abbrev outlets_after : ℕ → OutletReading
-  outlets_after q = shut_outlet (outlet_with (words_between w digest p q) [])
+  outlets_after q = shut_outlet (outlet_with (words_between w digest form p q) [])
 
   abbrev start : LinksReading
   start = links_by w p inlets_before outlets_before
@@ -144,16 +145,16 @@ module _ (w : World) (whole : IsWhole w) (digest : List ℕ) (p : ℕ) (lp : p <
 
   module _ (q : ℕ) (peer : IsPeer me q) where
     in_start : in_from me start q ≡ inlets_before q
-    in_start = inlet_is w digest p lp inlets_before outlets_before q peer.0 peer.1
+    in_start = inlet_is w digest form p lp inlets_before outlets_before q peer.0 peer.1
 
     in_end : in_from me end q ≡ inlets_after q
-    in_end = inlet_is w digest p lp inlets_after outlets_after q peer.0 peer.1
+    in_end = inlet_is w digest form p lp inlets_after outlets_after q peer.0 peer.1
 
     out_start : out_to me start q ≡ (outlets_before q).sink
-    out_start = outlet_is w digest p lp inlets_before outlets_before q peer.0 peer.1
+    out_start = outlet_is w digest form p lp inlets_before outlets_before q peer.0 peer.1
 
     out_end : out_to me end q ≡ (outlets_after q).sink
-    out_end = outlet_is w digest p lp inlets_after outlets_after q peer.0 peer.1
+    out_end = outlet_is w digest form p lp inlets_after outlets_after q peer.0 peer.1
 
     same_faults : (out_to me end q).faults ≡ (out_to me start q).faults
     same_faults = ap (λ (o : SinkReading). o.faults) out_end ∙ sym (ap (λ (o : SinkReading). o.faults) out_start)
@@ -179,8 +180,8 @@ module _ (w : World) (whole : IsWhole w) (digest : List ℕ) (p : ℕ) (lp : p <
         ∙ sym (ap (λ (o : SinkReading). added o.told (talk me q (own_word me (word w)))) (out_start q peer));
     heard = λ q peer.
         ap (λ (i : InletReading). i.told) (in_start q peer)
-        ∙ ap Some (sym (append-nil (words_between w digest q p)))
-        ∙ sym (ap (λ (i : InletReading). ahead (words_between w digest q p) i.told) (in_end q peer));
+        ∙ ap Some (sym (append-nil (words_between w digest form q p)))
+        ∙ sym (ap (λ (i : InletReading). ahead (words_between w digest form q p) i.told) (in_end q peer));
     small = λ q peer. every_from_places (λ key. word w key < 2 ^ w.plan.bits) (messages_between w.plan q p) no_key (λ j lj. small_word w whole (slice_index_or (messages_between w.plan q p) j no_key));
   }
 
@@ -211,16 +212,16 @@ module _ (w : World) (whole : IsWhole w) (digest : List ℕ) (p : ℕ) (lp : p <
   }
 
 pub worlds_are_played : WorldsArePlayed
-worlds_are_played w digest whole long = record {
+worlds_are_played w digest form whole long = record {
   whole = whole;
   digest = long;
-  runs = λ p lp. runs w whole digest p lp;
+  runs = λ p lp. runs w whole digest form p lp;
   pipes = λ p q lp lq ne. record {
     earlier = [];
-    held = words_between w digest p q;
+    held = words_between w digest form p q;
     lost = [];
-    before = ap (λ (o : SinkReading). o.told) (out_start w whole digest p lp q (lq, λ e. ne (sym e)));
-    after = ap (λ (o : SinkReading). o.told) (out_end w whole digest p lp q (lq, λ e. ne (sym e))) ∙ ap Some (sym (append-nil (words_between w digest p q)));
-    inlet = ap (λ (i : InletReading). i.told) (in_start w whole digest q lq p (lp, ne));
+    before = ap (λ (o : SinkReading). o.told) (out_start w whole digest form p lp q (lq, λ e. ne (sym e)));
+    after = ap (λ (o : SinkReading). o.told) (out_end w whole digest form p lp q (lq, λ e. ne (sym e))) ∙ ap Some (sym (append-nil (words_between w digest form p q)));
+    inlet = ap (λ (i : InletReading). i.told) (in_start w whole digest form q lq p (lp, ne));
   };
 }

@@ -7,6 +7,7 @@ use Rattle.job_plan.specs.Messages.{messages}
 use Rattle.job_plan.specs.Numbers.{message}
 use Rattle.share_world.specs.Worlds.{World, plain, word}
 use Rattle.share_world.specs.Laws.{IsWhole}
+use Rattle.frame_code.specs.declared.framing.FrameForm.{FrameForm}
 use Rattle.outer_io.specs.Inlet.{InletReading, shut_inlet}
 use Rattle.outer_io.specs.Jobs.{SpawnerReading}
 use Rattle.outer_io.specs.Links.{LinksReading}
@@ -18,11 +19,12 @@ use Rattle.node_run.specs.NodeRuns as node_runs
 use Rattle.node_run.specs.Remains.{party_at}
 use Rattle.network_laws.specs.Networks.{Network, IsNetwork, IsPipe, IsRight, RanThrough, node}
 
--- a world and a digest; and of each party what its links and its spawner show before its run and after it, and what it
+-- a world, a digest and a form of frames; and of each party what its links and its spawner show before its run and after it, and what it
 -- answered
 pub record Played : Type 0 where
   pub world : World
   pub digest : List ℕ
+  pub form : FrameForm
   pub before : ℕ → LinksReading
   pub after : ℕ → LinksReading
   pub spawner : ℕ → SpawnerReading
@@ -39,6 +41,7 @@ abbrev pub network_of : Played → Network
 network_of x = record {
   world = x.world;
   digest = x.digest;
+  form = x.form;
   before = x.before;
   after = x.after;
   results = λ p. results_of (x.answers p);
@@ -68,8 +71,9 @@ RunsMakeANetwork = (x : Played) → ArePlayed x → MakeANetwork x
 -- ---- runs in which nothing fails
 
 -- all that p says to q in the world
-abbrev pub words_between : World → List ℕ → ℕ → ℕ → List ℕ
-words_between w digest p q = stream digest p q (word w) (messages_between w.plan p q)
+abbrev pub words_between : World → List ℕ → FrameForm → ℕ → ℕ → List ℕ
+words_between w digest form p q =
+    stream (record { form = form; bits = w.plan.bits }) digest p q (word w) (messages_between w.plan p q)
 
 -- an inlet with these bytes left, and an outlet that took these and has room for those
 abbrev pub inlet_with : List ℕ → InletReading
@@ -109,18 +113,19 @@ abbrev pub idle : SpawnerReading
 idle = record { refusals = 0; steady = true }
 
 -- each party hears all that its peers say in the world, says all that it says there, and closes its links
-abbrev pub whole_play : World → List ℕ → Played
-whole_play w digest = record {
+abbrev pub whole_play : World → List ℕ → FrameForm → Played
+whole_play w digest form = record {
   world = w;
   digest = digest;
+  form = form;
   before =
       λ p. links_by w p
-      (λ q. inlet_with (words_between w digest q p))
-      (λ q. outlet_with [] (words_between w digest p q));
+      (λ q. inlet_with (words_between w digest form q p))
+      (λ q. outlet_with [] (words_between w digest form p q));
   after =
       λ p. links_by w p
       (λ q. shut_inlet (inlet_with []))
-      (λ q. shut_outlet (outlet_with (words_between w digest p q) []));
+      (λ q. shut_outlet (outlet_with (words_between w digest form p q) []));
   spawner = λ p. idle;
   spawner_after = λ p. idle;
   answers = λ p. Ok (world_results w p);
@@ -129,4 +134,5 @@ whole_play w digest = record {
 -- every whole world is played so
 abbrev pub WorldsArePlayed : Type 0
 WorldsArePlayed =
-    (w : World) (digest : List ℕ) → IsWhole w → length digest ≡ 32 → ArePlayed (whole_play w digest)
+    (w : World) (digest : List ℕ) (form : FrameForm) → IsWhole w → length digest ≡ 32
+    → ArePlayed (whole_play w digest form)

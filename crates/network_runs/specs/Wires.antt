@@ -5,6 +5,7 @@ use Rattle.party_set.specs.Parties.{has_party}
 use Rattle.maximal_groups.specs.Families.{LiesWithin}
 use Rattle.job_plan.specs.declared.key.Key.{Key}
 use Rattle.job_plan.specs.Plans.{Plan, structure}
+use Rattle.frame_code.specs.declared.framing.FrameForm.{FrameForm}
 use Rattle.share_world.specs.Worlds.{World, view}
 use Rattle.share_world.specs.Laws.{IsWhole}
 use Rattle.tape_map.specs.TapeMaps.{with_tapes}
@@ -14,7 +15,7 @@ use Rattle.view_counts.specs.Simulators.{known, simulated_ways}
 use Rattle.outer_io.specs.Sink.{added}
 use Rattle.node_talk.specs.PeerLinks.{out_to}
 use Rattle.network_laws.specs.Networks.{Network, plan_of, node, IsNetwork, AllRanThrough}
-use Rattle.network_laws.specs.Views.{on_wire}
+use Rattle.network_laws.specs.Views.{on_wire, framing_of}
 
 -- the pipe from p to q is one of a member
 abbrev pub is_wire : ℕ → ℕ → ℕ → Bool
@@ -26,8 +27,9 @@ by_wires plan group text =
     joined plan.parties (λ p. joined plan.parties (λ q. only_if (is_wire group p q) (text p q ∷ [])))
 
 -- what a view puts on them
-abbrev pub wires_of : Plan → List ℕ → ℕ → List (Key × ℕ) → List (List ℕ)
-wires_of plan digest group seen = by_wires plan group (λ p q. on_wire digest p q seen)
+abbrev pub wires_of : Plan → FrameForm → List ℕ → ℕ → List (Key × ℕ) → List (List ℕ)
+wires_of plan form digest group seen =
+    by_wires plan group (λ p q. on_wire (record { form = form; bits = plan.bits }) digest p q seen)
 
 -- these texts went over the wires: each outlet took its text
 pub record Carries (net : Network) (group : ℕ) (text : ℕ → ℕ → List ℕ) : Type 0 where
@@ -36,12 +38,13 @@ pub record Carries (net : Network) (group : ℕ) (text : ℕ → ℕ → List �
 
 -- over the wires went what the view puts there
 abbrev pub CarriesTheView : Network → ℕ → Type 0
-CarriesTheView net group = Carries net group (λ p q. on_wire net.digest p q (view net.world group))
+CarriesTheView net group = Carries net group (λ p q. on_wire (framing_of net) net.digest p q (view net.world group))
 
--- a network for each choice of the others' tapes, of the same inputs and digest, in which all ran to their end
-pub record AreNetworksOf (w : World) (digest : List ℕ) (group : ℕ) (nets : List (List ℕ) → Network)
+-- a network for each choice of the others' tapes, of the same inputs, digest and form of frames, in which all ran to their end
+pub record AreNetworksOf (w : World) (form : FrameForm) (digest : List ℕ) (group : ℕ) (nets : List (List ℕ) → Network)
     (texts : List (List ℕ) → ℕ → ℕ → List ℕ) : Type 0 where
   pub worlds : (tapes : List (List ℕ)) → IsChoice w group tapes → (nets tapes).world ≡ with_tapes w tapes
+  pub forms : (tapes : List (List ℕ)) → IsChoice w group tapes → (nets tapes).form ≡ form
   pub digests : (tapes : List (List ℕ)) → IsChoice w group tapes → (nets tapes).digest ≡ digest
   pub networks : (tapes : List (List ℕ)) → IsChoice w group tapes → IsNetwork (nets tapes)
   pub ended : (tapes : List (List ℕ)) → IsChoice w group tapes → AllRanThrough (nets tapes)
@@ -50,8 +53,9 @@ pub record AreNetworksOf (w : World) (digest : List ℕ) (group : ℕ) (nets : L
 -- What was carried passes each test for as many choices as what the simulator's view puts on the wires.
 abbrev pub WiresAreSimulated : Type 0
 WiresAreSimulated =
-    (w : World) (digest : List ℕ) (group : ℕ) (nets : List (List ℕ) → Network) (texts : List (List ℕ) → ℕ → ℕ → List ℕ)
-    → IsWhole w → LiesWithin (structure w.plan) group → AreNetworksOf w digest group nets texts
+    (w : World) (form : FrameForm) (digest : List ℕ) (group : ℕ) (nets : List (List ℕ) → Network)
+    (texts : List (List ℕ) → ℕ → ℕ → List ℕ)
+    → IsWhole w → LiesWithin (structure w.plan) group → AreNetworksOf w form digest group nets texts
     → (test : List (List ℕ) → Bool)
     → count_by (λ tapes. test (by_wires w.plan group (texts tapes))) (choices w.plan group w.tapes)
-    ≡ simulated_ways w.plan group (known w group) (λ seen. test (wires_of w.plan digest group seen))
+    ≡ simulated_ways w.plan group (known w group) (λ seen. test (wires_of w.plan form digest group seen))

@@ -1,5 +1,5 @@
 -- Flush after flush.
-use Rattle.std.proofs.Common.{◌≡◌, ◌≢◌, ℕ, zero, suc, ◌+◌, ◌<◌, false, not, List, [], ◌∷◌, length, take, refl, sym, ap, ◌∙◌, subst, arith, Some, None, Result, Ok, Err}
+use Rattle.std.proofs.Common.{◌≡◌, ◌≢◌, ℕ, zero, suc, ◌+◌, ◌<◌, false, not, List, [], ◌∷◌, length, take, refl, sym, ap, ◌∙◌, subst, arith, inl as sum_inl, inr as sum_inr, Some, None, Result, Ok, Err}
 use Rattle.std.specs.Prelude.{IsTrue, OnOk, slice_index_or}
 use Rattle.std.proofs.lemmas.Bool.{cases_eq}
 use Rattle.std.proofs.lemmas.Bool.Decides.{nat_tests}
@@ -16,6 +16,8 @@ use Rattle.outer_io.proofs.NetRefusals.{both_true}
 use Rattle.outer_io.proofs.WrittenPieces.{added-nil}
 use Rattle.node_talk.specs.Talks.{Node, IsPeer, own_word, said}
 use Rattle.node_talk.specs.PeerLinks.{no_outlet, out_to}
+use Rattle.node_talk.specs.Runs.{GoesOut}
+use Rattle.job_plan.specs.Numbers.{message}
 use Rattle.node_run.specs.Mail.{Mail, IsMail, NeverComes, NothingWaits, SentTo, FlushedTo, failed_after, link_to, outlet_to}
 use Rattle.node_run.specs.Progress.{Begin, Agrees, HasTaken, HasPosted, KeepsOwn, IsOf, Going, KeepsRoom, OutletStays, StopsBy, Halted, InSession, InOrder, FlushedBelow, FlushFailed, AllGreeted, Ungreeted, Greeted, said_bytes}
 use Rattle.node_run.specs.Remains.{party_at}
@@ -32,7 +34,7 @@ take_none (suc n) = refl
 
 module _ (n : Node) (k : ℕ) (start : Begin) (c : Mail) (g : Going n k start c) (q : ℕ) (lq : q < n.world.plan.parties) (other : q ≢ n.me) (d : Mail) (sent : SentTo q [] c d) where
   own' : IsOf n start d
-  own' = subst (IsOf n start) (sym sent.rest) (record { part = g.own.part; digest = g.own.digest; plan = g.own.plan; me = g.own.me; ids = g.own.ids; cells = g.own.cells })
+  own' = subst (IsOf n start) (sym sent.rest) (record { part = g.own.part; digest = g.own.digest; plan = g.own.plan; me = g.own.me; form = g.own.form; ids = g.own.ids; cells = g.own.cells })
 
   same_cells : d.words.cells ≡ c.words.cells
   same_cells = ap (λ (z : Mail). z.words.cells) sent.rest
@@ -90,8 +92,8 @@ module _ (n : Node) (k : ℕ) (start : Begin) (c : Mail) (g : Going n k start c)
     quiet = quiet;
   }
 
-  pub halts : d.failed ≢ None → Halted n start d
-  halts some = record {
+  pub halts : d.failed ≢ None → GoesOut n k → Halted n start d
+  halts some out = record {
     k = k;
     stopped = record {
       own = own';
@@ -101,7 +103,12 @@ module _ (n : Node) (k : ℕ) (start : Begin) (c : Mail) (g : Going n k start c)
       own_words = subst (KeepsOwn n) (sym same_cells) g.own_words;
       sent = λ got ag r peer. whole_prefix _ _ _ (said_still got ag r peer);
     };
-    why = subst (StopsBy n k start d) (sym (nothing.2 some).1) ((lq, other), subst (λ z. Rose z (outlet_to d q).faults) (g.calm q (lq, other)) (nothing.2 some).0);
+    why = subst (StopsBy n k start d) (sym (nothing.2 some).1) (
+      (lq, other),
+      subst (λ z. Rose z (outlet_to d q).faults) (g.calm q (lq, other)) (nothing.2 some).0,
+      λ got ag.
+          sum_inl (record { itself = sum_inr (out, said_still got ag q (lq, other)); others = λ r peer ne. said_still got ag r peer }),
+    );
     outlets = λ r peer. elim (cases_eq q r) [
       | inl e ↦ subst (λ z. OutletStays n z d.failed (out_to n start.links z) (outlet_to d z)) e
           (failed_stays n q d.failed (said_bytes n q k) [] _ (outlet_to c q) _ (nothing.2 some).1 (g.calm q (lq, other)) (g.room q (lq, other))
@@ -156,7 +163,7 @@ module _ (q : ℕ) (b c : Mail) (h : FlushedBelow q b c) where
     flush_failed some = record {
       rest = rest';
       some = some;
-      halted = λ n k start g. let p = of_peer n k start g in halts n k start c (h.going n k start g) q p.0 p.1 d f.sent some;
+      halted = λ n k start g out. let p = of_peer n k start g in halts n k start c (h.going n k start g) q p.0 p.1 d f.sent some out;
     }
 
 -- ---- all outlets
@@ -191,7 +198,7 @@ all_gone n start q c d g h out = record { going = h.going n 0 start (all_greeted
 
 pub hello_stays : (n : Node) (start : Begin) (c d : Mail) → Greeted n n.world.plan.parties start c → FlushFailed c d → Ungreeted n start d
 hello_stays n start c d g h = record {
-  halted = h.halted n 0 start (all_greeted n start c g);
+  halted = h.halted n 0 start (all_greeted n start c g) (sum_inl refl);
   some = h.some;
   words = λ m. ap (λ (z : Mail). plain_cell z.words.cells m) h.rest ∙ g.words m;
 }
@@ -231,4 +238,7 @@ halted_goes n start q c d h quiet f =
     }
 
 pub halted_fails : (n : Node) (start : Begin) (c d : Mail) → Halted n start c → c.failed ≡ None → FlushFailed c d → Halted n start d
-halted_fails n start c d h quiet f = f.halted n h.k start (stops_at_take n start c h quiet).0
+halted_fails n start c d h quiet f =
+    let why = stops_at_take n start c h quiet in
+    f.halted n h.k start why.0
+    (sum_inr (sum_inr (why.1.0, why.1.1, why.1.2, λ e. why.1.3.peer (ap (λ z. (message z why.1.0).sender) why.0.own.plan ∙ e ∙ sym why.0.own.me))))

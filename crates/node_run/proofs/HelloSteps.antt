@@ -1,5 +1,5 @@
 -- Hello after hello.
-use Rattle.std.proofs.Common.{◌≡◌, ◌≢◌, ℕ, ◌+◌, ◌<◌, Bool, true, false, not, List, refl, sym, ap, ◌∙◌, subst, arith, Option, Some, None, Result, Ok, Err}
+use Rattle.std.proofs.Common.{◌≡◌, ◌≢◌, ℕ, ◌+◌, ◌<◌, Bool, true, false, not, List, refl, sym, ap, ◌∙◌, subst, arith, inr as sum_inr, Option, Some, None, Result, Ok, Err}
 use Rattle.std.specs.Option.{is_some}
 use Rattle.std.proofs.lemmas.Bool.{cases_eq, cases_lt}
 use Rattle.std.proofs.lemmas.List.{append-nil}
@@ -15,7 +15,7 @@ use Rattle.frame_code.proofs.ReadFrames.{length-hello}
 use Rattle.node_talk.specs.Talks.{Node, IsPeer, own_word, said}
 use Rattle.node_talk.specs.PeerLinks.{out_to}
 use Rattle.node_run.specs.Mail.{Mail, SentTo, failed_after, outlet_to}
-use Rattle.node_run.specs.Progress.{Begin, IsOf, Going, KeepsRoom, OutletStays, StopsBy, Halted, Greeted, Ungreeted}
+use Rattle.node_run.specs.Progress.{Begin, IsOf, Going, KeepsRoom, OutletStays, StopsBy, Halted, Greeted, Ungreeted, said_bytes}
 use Rattle.node_run.proofs.SessionSteps.{whole_prefix}
 use Rattle.node_run.proofs.OutletSteps.{room_kept, room_at, Sent, Unsent, sent_ok, sent_err, other_stays, failed_stays}
 
@@ -48,7 +48,7 @@ module _ (n : Node) (q : ℕ) (start : Begin) (c : Mail) (h : Greeted n q start 
 
   module _ (lq : q < n.world.plan.parties) (other : q ≢ n.me) (d : Mail) (sent : SentTo q (hello n.me q n.digest) c d) where
     own' : IsOf n start d
-    own' = subst (IsOf n start) (sym sent.rest) (record { part = h.own.part; digest = h.own.digest; plan = h.own.plan; me = h.own.me; ids = h.own.ids; cells = h.own.cells })
+    own' = subst (IsOf n start) (sym sent.rest) (record { part = h.own.part; digest = h.own.digest; plan = h.own.plan; me = h.own.me; form = h.own.form; ids = h.own.ids; cells = h.own.cells })
 
     words' : (m : ℕ) → plain_cell d.words.cells m ≡ None
     words' m = ap (λ (z : Mail). plain_cell z.words.cells m) sent.rest ∙ h.words m
@@ -118,7 +118,18 @@ module _ (n : Node) (q : ℕ) (start : Begin) (c : Mail) (h : Greeted n q start 
           | inr ne ↦ subst (λ z. AddedPrefix (out_to n start.links r).told (hello n.me r n.digest) z.told) (sym (there r peer ne)) (before_here r peer)
         ]);
       };
-      why = subst (StopsBy n 0 start d) (sym (written.1 some).2) ((lq, other), subst (λ z. Rose z (outlet_to d q).faults) (h.calm q (lq, other)) (written.1 some).1);
+      why = subst (StopsBy n 0 start d) (sym (written.1 some).2) (
+        (lq, other),
+        subst (λ z. Rose z (outlet_to d q).faults) (h.calm q (lq, other)) (written.1 some).1,
+        λ got ag.
+            sum_inr (
+              refl,
+              record {
+                below = λ r peer l. ap (λ z. z.told) (there r peer (let ne : r ≢ q = (λ e. omega (arith, l, e)) in ne)) ∙ h.sent r peer l;
+                above = λ r peer l. ap (λ z. z.told) (there r peer (let ne : r ≢ q = (λ e. omega (arith, l, e)) in ne) ∙ h.others r peer (omega (arith, l)));
+              },
+            ),
+      );
       outlets = λ r peer. elim (cases_eq q r) [
         | inl e ↦ subst (λ z. OutletStays n z d.failed (out_to n start.links z) (outlet_to d z)) e
             (failed_stays n q d.failed 0 (hello n.me q n.digest) _ (outlet_to c q) _ (written.1 some).2 (h.calm q (lq, other)) (subst (λ z. KeepsRoom 0 z (outlet_to c q)) fresh (room_kept (outlet_to c q)))
@@ -155,6 +166,6 @@ all_greeted n start c h = record {
   };
   sent = λ got ag q peer. h.sent q peer peer.0 ∙ ap (added (out_to n start.links q).told) (sym (said_nothing n q (own_word n got)));
   calm = h.calm;
-  room = λ q peer. h.room q peer peer.0;
+  room = λ q peer. room_at 38 (said_bytes n q 0) _ _ (omega arith) (h.room q peer peer.0);
   quiet = h.quiet;
 }

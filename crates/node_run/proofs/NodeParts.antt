@@ -271,13 +271,14 @@ module _ (part : NodePart) (h : IsNodePart part) where
   pub some_node : (n : Node) × IsNodeOf part n × IsWhole n.world
   some_node =
       let own : nat_eq part.me part.me ≡ true = eq-eqb part.me part.me refl in (
-        record { world = some_world; me = part.me; digest = part.digest },
+        record { world = some_world; me = part.me; digest = part.digest; form = part.form },
         record {
           plan = refl;
           me = refl;
           inputs = inputs_at part.me h.party ∙ ap (λ b. if b then part.given.inputs else zeros part.me) own;
           tape = tape_at part.me h.party ∙ ap (λ b. if b then concat part.given.tapes else replicate (tape_length plan part.me) 0) own;
           digest = refl;
+          form = refl;
         },
         record { sound = h.sound; inputs = are_inputs; tapes = are_tapes },
       )

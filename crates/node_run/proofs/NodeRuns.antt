@@ -24,7 +24,7 @@ use Rattle.node_talk.specs.declared.fault.NodeFault.TheVariants.{Link, Closed, B
 use Rattle.node_talk.specs.Talks.{Node, IsPeer, own_word, said, place_of}
 use Rattle.node_talk.specs.PeerLinks.{place_among, no_inlet, no_outlet, in_from, out_to}
 use Rattle.node_talk.specs.Causes.{Cause}
-use Rattle.node_talk.specs.Runs.{Results, IsDone, TalkedThrough, KeepsItsWords, StopsAfter, NoSendRose, AllStarted, BrokeOff}
+use Rattle.node_talk.specs.Runs.{Results, IsDone, TalkedThrough, KeepsItsWords, StopsAfter, NoSendRose, AllStarted, SaysFirst, BrokeOff}
 use Rattle.node_talk.proofs.NoCauses.{no_cause}
 use Rattle.node_talk.proofs.RightRuns.{joins}
 use Rattle.node_talk.proofs.ExpectedPlaces.{placed}
@@ -38,6 +38,7 @@ use Rattle.node_run.specs.Mail.{Mail, IsMail, outlet_to, box_of}
 use Rattle.node_run.specs.Progress.{Begin, Agrees, IsOf, Going, Stopped, StopsBy, Halted, Ungreeted, InOrder, OutletStays, before_session}
 use Rattle.node_run.specs.Remains.{RemainsModel, SpawnerStays, AllKeepCalm, PeerEnd, AllEnd, ReadBy, EndsAtRefusal, EndsAs, Remained, party_at, fault_told, answer}
 use Rattle.node_run.specs.NodeRuns.{Runs, GaveAll, GaveAllBelow, IsFirst, IsFirstUnstarted, NothingSaid, TellsSends, TellsRefusals, KeepsOutlet, StaySteady}
+use Rattle.node_talk.proofs.SaidParts.{shown_alike}
 use Rattle.node_run.proofs.KnownWords.{known, agrees_known}
 use Rattle.node_run.proofs.OutletSteps.{going_stays}
 use Rattle.node_run.proofs.SessionSteps.{stopped_at}
@@ -89,6 +90,17 @@ module _ (n : Node) (before after : LinksReading) (spawner spawner' : SpawnerRea
     steady = steady;
   }
 
+-- ---- what was said, whatever words are still to come
+
+abbrev SaysSo : Node → Begin → Mail → ℕ → Type 0
+SaysSo n start now k = (got : Key → ℕ) → Agrees n now.words.cells got → SaysFirst n (own_word n got) k (out_to n start.links) (outlet_to now)
+
+going_says : (n : Node) (start : Begin) (now : Mail) (k : ℕ) → Going n k start now → SaysSo n start now k
+going_says n start now k g got ag = inl (λ q peer. (g.sent got ag q peer, g.calm q peer))
+
+failed_says : (n : Node) (start : Begin) (now : Mail) (k q : ℕ) → StopsBy n k start now (Some q) → SaysSo n start now k
+failed_says n start now k q why got ag = inr (q, why.0, why.1, why.2 got ag)
+
 -- ---- what is left of the links
 
 module _ (n : Node) (start : Begin) (after : LinksReading) (now : Mail) (own : IsOf n start now) (mail : IsMail now) (inlets : length after.inlets ≡ length start.links.inlets) (outlets : after.outlets ≡ map shut_outlet now.outlets)
@@ -125,11 +137,15 @@ module _ (n : Node) (start : Begin) (after : LinksReading) (now : Mail) (own : I
           | right' ne ↦ absurd (changed (ap (λ z. z.faults) (outlet_same q) ∙ (stays q peer).calm (λ f. ne (let x : Some p ≡ Some q = sym e ∙ f in cc))))
         ]
 
+  -- the links that are left show what was said
+  says_left : (k : ℕ) (word : Key → ℕ) → SaysFirst n word k (out_to n start.links) (outlet_to now) → SaysFirst n word k (out_to n start.links) (out_to n after)
+  says_left k word = shown_alike n word k (out_to n start.links) (outlet_to now) (out_to n after) (λ q. ap (λ z. z.told) (outlet_same q)) (λ q. ap (λ z. z.faults) (outlet_same q))
+
   -- ---- a run that was broken off
 
   -- where no word was taken, and a send or a start failed
-  pub broke_silent : ((m : ℕ) → plain_cell now.words.cells m ≡ None) → (k : ℕ) → Stopped n k start now → (fault : NodeFault) → (AllStarted fault → ¬ NoSendRose n start.links after) → (got : Key → ℕ) × BrokeOff n got start.links after fault
-  broke_silent none k s fault hindered = breaks_off n own.digest start.links after fault (record {
+  pub broke_silent : ((m : ℕ) → plain_cell now.words.cells m ≡ None) → (k : ℕ) → Stopped n k start now → (fault : NodeFault) → SaysSo n start now k → (AllStarted fault → ¬ NoSendRose n start.links after) → (got : Key → ℕ) × BrokeOff n got start.links after fault
+  broke_silent none k s fault says hindered = breaks_off n own.digest start.links after fault (record {
     k = k;
     words = λ q. [];
     kept = λ key. 0;
@@ -138,6 +154,7 @@ module _ (n : Node) (start : Begin) (after : LinksReading) (now : Mail) (own : I
     keeps = λ got has j m i l e to. let v = s.posted j m i l e in absurd (let f : None ≡ Some v.0 = sym (none m) ∙ v.1 in cc);
     sent = λ got has q peer. subst (AddedPrefix (out_to n start.links q).told (said n q (own_word n got) k)) (sym (ap (λ z. z.told) (outlet_same q)))
         (s.sent got (λ m v to e. absurd (let f : None ≡ Some v = sym (none m) ∙ e in cc)) q peer);
+    sends = λ got has. says_left k (own_word n got) (says got (λ m v to e. absurd (let f : None ≡ Some v = sym (none m) ∙ e in cc)));
     all = λ started calm. absurd (hindered started calm);
   })
 
@@ -180,8 +197,8 @@ module _ (n : Node) (start : Begin) (after : LinksReading) (now : Mail) (own : I
         let from = (posted_by n own.part j m i (let b = s.within in omega (arith, l, b)) e).1 in
         agrees got has m v.0 to v.1 ∙ s.own_words.word m v.0 v.1 from got (agrees got has)
 
-    pub broke_while_read : (k : ℕ) → Stopped n k start now → (told : NodeFault) → (AllStarted told → NoSendRose n start.links after → SaidWhatItCould n words (known n now.words.cells) k start.links after) → (got : Key → ℕ) × BrokeOff n got start.links after told
-    broke_while_read k s told all = breaks_off n own.digest start.links after told (record {
+    pub broke_while_read : (k : ℕ) → Stopped n k start now → (told : NodeFault) → SaysSo n start now k → (AllStarted told → NoSendRose n start.links after → SaidWhatItCould n words (known n now.words.cells) k start.links after) → (got : Key → ℕ) × BrokeOff n got start.links after told
+    broke_while_read k s told says all = breaks_off n own.digest start.links after told (record {
       k = k;
       words = words;
       kept = known n now.words.cells;
@@ -192,6 +209,7 @@ module _ (n : Node) (start : Begin) (after : LinksReading) (now : Mail) (own : I
           elim (cases_eq (message n.world.plan m).sender n.me) [ left' from ↦ inl from | right' apart ↦ inr (taken_word m v.0 t.1 apart v.1).within ];
       keeps = keeps_words k s;
       sent = λ got has q peer. subst (AddedPrefix (out_to n start.links q).told (said n q (own_word n got) k)) (sym (ap (λ z. z.told) (outlet_same q))) (s.sent got (agrees got has) q peer);
+      sends = λ got has. says_left k (own_word n got) (says got (agrees got has));
       all = all;
     })
 
@@ -206,13 +224,13 @@ module _ (n : Node) (start : Begin) (after : LinksReading) (now : Mail) (own : I
     pub broke_at_end : (told : NodeFault) → Going n (before_session n (length n.world.plan.sessions)) start now → (got : Key → ℕ) × BrokeOff n got start.links after told
     broke_at_end told going =
         let k : ℕ = before_session n (length n.world.plan.sessions) in
-        broke_while_read k (stopped_at n k start now going) told (λ started calm. said_could k going (inl refl))
+        broke_while_read k (stopped_at n k start now going) told (going_says n start now k going) (λ started calm. said_could k going (inl refl))
 
     pub broke_at_take : (told : NodeFault) (k : ℕ) → StopsBy n k start now None → (got : Key → ℕ) × BrokeOff n got start.links after told
     broke_at_take told k why =
         let m : ℕ = why.1.0 in
         let r = read (message n.world.plan m).sender (from_peer n start now own mail k m why.1.1 why.1.2 why.1.3) in
-        broke_while_read k (stopped_at n k start now why.0) told (λ started calm. said_could k why.0
+        broke_while_read k (stopped_at n k start now why.0) told (going_says n start now k why.0) (λ started calm. said_could k why.0
         (inr (m, why.1.1, why.1.2, ⊎_elim (from_peer n start now own mail k m why.1.1 why.1.2 why.1.3).1 (not_read n start now own mail k m why.1.1 why.1.2 why.1.3 start.links after (words (message n.world.plan m).sender) r.0 r.1))))
 
     -- ---- the first fault of a reader
@@ -333,10 +351,11 @@ module _ (n : Node) (start : Begin) (after : LinksReading) (spawner spawner' : S
       by_failed None is = absurd (u.some is)
       by_failed (Some q) is =
           let many = ap (λ (z : List InletReading). length z) inlets ∙ length-map start.links.inlets shut_inlet in
-          let rose = rose_at n start after now u.halted.stopped.own mail many outlets were u.halted.k q (subst (StopsBy n u.halted.k start now) is u.halted.why) in
+          let why = subst (StopsBy n u.halted.k start now) is u.halted.why in
+          let rose = rose_at n start after now u.halted.stopped.own mail many outlets were u.halted.k q why in
           subst (λ z. Runs n start.links after spawner spawner' (answer (fault_told z None fault) r)) (sym is)
           (send_failed now mail u.halted q is many outlets (subst (AllKeepCalm start.links.inlets) (sym inlets) (all_shut start.links.inlets)) (subst (λ z. IsTrue (list_all (λ (i : InletReading). i.closed) z)) (sym inlets) (inlets_closed start.links.inlets)) (subst (SpawnerStays spawner) (sym rests) (spawner_rests spawner))
-          (ap (λ z. z.refusals) rests) (broke_silent n start after now u.halted.stopped.own mail many outlets were u.words u.halted.k u.halted.stopped (Link q) (λ started calm. calm q rose.0 rose.1)))
+          (ap (λ z. z.refusals) rests) (broke_silent n start after now u.halted.stopped.own mail many outlets were u.words u.halted.k u.halted.stopped (Link q) (failed_says n start now u.halted.k q why) (λ started calm. calm q rose.0 rose.1)))
 
   -- the readers were started, or a start was refused
   module _ (r : RemainsModel) (h : Remained n start 0 start.links.inlets after.inlets spawner spawner' r) (outs : after.outlets ≡ r.outlets) where
@@ -384,7 +403,7 @@ module _ (n : Node) (start : Begin) (after : LinksReading) (spawner spawner' : S
         let stays = going_stays n 0 start h.now e.1 in
         let same = outlet_same n start after h.now h.own h.mail h.count outlets' were in
         subst (λ z. Answers (fault_told z r.refused r.fault)) (sym none) (subst (λ z. Answers (fault_told None z r.fault)) (sym is)
-        (fault_runs n start.links after spawner spawner' (NoThread p) h.own.digest peers' closed' (λ calm. gone' none) (broke_silent n start after h.now h.own h.mail h.count outlets' were e.2 0 (stopped_at n 0 start h.now e.1) (NoThread p) (λ started calm. started)) (e.0, e.3) (unstarted p e.0 e.4)
+        (fault_runs n start.links after spawner spawner' (NoThread p) h.own.digest peers' closed' (λ calm. gone' none) (broke_silent n start after h.now h.own h.mail h.count outlets' were e.2 0 (stopped_at n 0 start h.now e.1) (NoThread p) (going_says n start h.now 0 e.1) (λ started calm. started)) (e.0, e.3) (unstarted p e.0 e.4)
         (tells_sends n start after h.now h.own h.mail h.count outlets' were stays (Err (NoThread p)) (λ q f. absurd (let x : None ≡ Some q = sym e.1.quiet ∙ f in cc)))
         (λ changed. (p, refl))
         (λ q peer. ap (λ z. z.told) (same q) ∙ e.1.sent (known n h.now.words.cells) (agrees_known n h.now.words.cells h.own.cells) q peer ∙ ap (added (out_to n start.links q).told) (append-nil (hello n.me q n.digest)))
@@ -408,9 +427,10 @@ module _ (n : Node) (start : Begin) (after : LinksReading) (spawner spawner' : S
       sends_failed q is = elim ends [
         | left' order ↦ absurd (let f : None ≡ Some q = sym order.going.quiet ∙ is in cc)
         | right' halted ↦
-            let rose = rose_at n start after h.now h.own h.mail h.count outlets' were halted.k q (subst (StopsBy n halted.k start h.now) is halted.why) in
+            let why = subst (StopsBy n halted.k start h.now) is halted.why in
+            let rose = rose_at n start after h.now h.own h.mail h.count outlets' were halted.k q why in
             send_failed h.now h.mail halted q is h.count outlets' h.inlets h.closed h.spawner_stays quiet
-            (broke_while_read n start after h.now h.own h.mail h.count outlets' were r.fault all halted.k halted.stopped (Link q) (λ started calm. absurd (calm q rose.0 rose.1)))
+            (broke_while_read n start after h.now h.own h.mail h.count outlets' were r.fault all halted.k halted.stopped (Link q) (failed_says n start h.now halted.k q why) (λ started calm. absurd (calm q rose.0 rose.1)))
       ]
 
       module _ (calm : h.now.failed ≡ None) where

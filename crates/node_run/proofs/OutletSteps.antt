@@ -4,9 +4,10 @@ use Rattle.std.specs.Prelude.{IsTrue, IsOk}
 use Rattle.std.proofs.lemmas.Bool.{false≢true}
 use Rattle.job_plan.specs.declared.key.Key.{Key}
 use Rattle.party_program.specs.Programs.{at}
+use Rattle.frame_code.specs.Frames.{frame_bytes}
 use Rattle.outer_io.specs.Sink.{SinkReading, Writes}
 use Rattle.outer_io.specs.declared.sink.Failed.{Failed}
-use Rattle.node_talk.specs.Talks.{Node, acts, IsPeer, frames, messages_between, post_to, posts_to}
+use Rattle.node_talk.specs.Talks.{Node, framing, acts, IsPeer, frames, messages_between, post_to, posts_to}
 use Rattle.node_talk.specs.PeerLinks.{out_to}
 use Rattle.node_talk.proofs.Frames.{frames_length}
 use Rattle.node_talk.proofs.MessageOrder.{gather_step, gather_prefix, posts_are_all}
@@ -16,13 +17,14 @@ use Rattle.node_run.specs.Progress.{Begin, Going, KeepsRoom, OutletStays, said_b
 -- ---- bytes that are said
 
 -- one instruction says the bytes of its frames
-pub bytes_more : (n : Node) (q k : ℕ) (word : Key → ℕ) (bytes : List ℕ) → k < length (acts n) → frames word (post_to n.world.plan q (at (acts n) k)) ≡ bytes
+pub bytes_more : (n : Node) (q k : ℕ) (word : Key → ℕ) (bytes : List ℕ) → k < length (acts n) → frames (framing n) word (post_to n.world.plan q (at (acts n) k)) ≡ bytes
     → said_bytes n q (suc k) ≡ said_bytes n q k + length bytes
 bytes_more n q k word bytes l is =
     let more : length (posts_to n q (suc k)) ≡ length (posts_to n q k) + length (post_to n.world.plan q (at (acts n) k)) =
     ap (λ z. length z) (gather_step (post_to n.world.plan q) (acts n) k l) ∙ length-append (posts_to n q k) (post_to n.world.plan q (at (acts n) k)) in
-    let long : 18 * length (post_to n.world.plan q (at (acts n) k)) ≡ length bytes = sym (frames_length word (post_to n.world.plan q (at (acts n) k))) ∙ ap (λ z. length z) is in
-    omega (arith, more, long)
+    let long : frame_bytes (framing n) * length (post_to n.world.plan q (at (acts n) k)) ≡ length bytes = sym (frames_length (framing n) word (post_to n.world.plan q (at (acts n) k))) ∙ ap (λ z. length z) is in
+    let many : frame_bytes (framing n) * length (posts_to n q (suc k)) ≡ frame_bytes (framing n) * (length (posts_to n q k) + length (post_to n.world.plan q (at (acts n) k))) = ap (λ z. frame_bytes (framing n) * z) more in
+    omega (arith, many, long)
 
 -- the first instructions say no more than the talk
 pub bytes_within : (n : Node) (q k : ℕ) → k ≤ length (acts n) → said_bytes n q k ≤ talk_bytes n q
@@ -30,7 +32,8 @@ bytes_within n q k le =
     let r = gather_prefix (post_to n.world.plan q) (acts n) k (length (acts n)) le in
     let all : length (posts_to n q k) + length r.0 ≡ length (messages_between n.world.plan n.me q) =
     sym (length-append (posts_to n q k) r.0) ∙ ap (λ z. length z) (sym r.1) ∙ ap (λ z. length z) (posts_are_all n q) in
-    omega (arith, all)
+    let many : frame_bytes (framing n) * (length (posts_to n q k) + length r.0) ≡ frame_bytes (framing n) * length (messages_between n.world.plan n.me q) = ap (λ z. frame_bytes (framing n) * z) all in
+    omega (arith, many)
 
 -- ---- sends
 

@@ -9,6 +9,7 @@ use mathlib.Core.Logic.{inl, inr}
 use Rattle.list_laws.proofs.PushedLists.{got_push}
 use Rattle.atomic_table.specs.Seated.{TableId}
 use Rattle.message_board.specs.Plain.{word_in_cell, plain_cell}
+use Rattle.frame_code.specs.declared.framing.FrameForm.{FrameForm}
 use Rattle.job_plan.specs.Plans.{Plan}
 use Rattle.party_file.specs.Table.{PartyForm}
 use Rattle.party_desk.specs.declared.desk.Desk.{Desk}
@@ -84,23 +85,23 @@ empty_cells n m = elim (cases_lt m n) [
 
 -- ---- peers
 
-pub no_peers : (plan : Plan) (me : ℕ) (parker : TableId) (digest : List ℕ) → ArePeersReady plan me parker digest 0 [] []
-no_peers plan me parker digest = record { box_count = refl; reader_count = refl; each = λ place r e. absurd (cc) }
+pub no_peers : (plan : Plan) (me : ℕ) (parker : TableId) (digest : List ℕ) (form : FrameForm) → ArePeersReady plan me parker digest form 0 [] []
+no_peers plan me parker digest form = record { box_count = refl; reader_count = refl; each = λ place r e. absurd (cc) }
 
-pub one_more_peer : (plan : Plan) (me : ℕ) (parker : TableId) (digest : List ℕ) (k : ℕ) (boxes : List BoxModel) (readers : List ReaderPartsModel) (box : BoxModel) (reader : ReaderPartsModel)
-    → ArePeersReady plan me parker digest k boxes readers → IsPeerReady plan me parker digest (party_at me k) box reader → ArePeersReady plan me parker digest (k + 1) (boxes ++ box ∷ []) (readers ++ reader ∷ [])
-one_more_peer plan me parker digest k boxes readers box reader before new = record {
+pub one_more_peer : (plan : Plan) (me : ℕ) (parker : TableId) (digest : List ℕ) (form : FrameForm) (k : ℕ) (boxes : List BoxModel) (readers : List ReaderPartsModel) (box : BoxModel) (reader : ReaderPartsModel)
+    → ArePeersReady plan me parker digest form k boxes readers → IsPeerReady plan me parker digest form (party_at me k) box reader → ArePeersReady plan me parker digest form (k + 1) (boxes ++ box ∷ []) (readers ++ reader ∷ [])
+one_more_peer plan me parker digest form k boxes readers box reader before new = record {
   box_count = length-append boxes (box ∷ []) ∙ ap (λ z. z + 1) before.box_count;
   reader_count = length-append readers (reader ∷ []) ∙ ap (λ z. z + 1) before.reader_count;
   each = λ place r e. elim (got_push readers reader r place e) [
     | inl old ↦
         let within = (stands_at readers place r r old).0 in
         let less : place < length boxes = omega (arith, within, before.box_count, before.reader_count) in
-        subst (λ b. IsPeerReady plan me parker digest (party_at me place) b r) (sym (get_or-append boxes (box ∷ []) no_box place less)) (before.each place r old)
+        subst (λ b. IsPeerReady plan me parker digest form (party_at me place) b r) (sym (get_or-append boxes (box ∷ []) no_box place less)) (before.each place r old)
     | inr last ↦
         let same : k ≡ place = omega (arith, last.0, before.reader_count) in
         let here : place ≡ length boxes + 0 = omega (arith, last.0, before.box_count, before.reader_count) in
         let box_is : slice_index_or (boxes ++ box ∷ []) place no_box ≡ box = ap (λ z. slice_index_or (boxes ++ box ∷ []) z no_box) here ∙ get_or-append-add boxes (box ∷ []) 0 no_box in
-        subst (λ b. IsPeerReady plan me parker digest (party_at me place) b r) (sym box_is) (subst (λ x. IsPeerReady plan me parker digest (party_at me place) box x) last.1 (subst (λ z. IsPeerReady plan me parker digest (party_at me z) box reader) same new))
+        subst (λ b. IsPeerReady plan me parker digest form (party_at me place) b r) (sym box_is) (subst (λ x. IsPeerReady plan me parker digest form (party_at me place) box x) last.1 (subst (λ z. IsPeerReady plan me parker digest form (party_at me z) box reader) same new))
   ];
 }

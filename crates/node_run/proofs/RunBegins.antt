@@ -5,6 +5,7 @@ use Rattle.std.proofs.lemmas.Option.{slice_get_within, get_or_from_slice_get}
 use Rattle.std.specs.Prelude.{slice_index_or}
 use Rattle.std.proofs.Math.ListN.{length-map}
 use Rattle.atomic_table.specs.Seated.{TableId}
+use Rattle.frame_code.specs.declared.framing.FrameForm.{FrameForm}
 use Rattle.job_plan.specs.Plans.{Plan}
 use Rattle.job_plan.specs.Messages.{messages}
 use Rattle.job_plan.specs.Numbers.{message}
@@ -32,6 +33,7 @@ first_mail part kept outlets =
     record {
       plan = part.plan;
       me = part.me;
+      form = part.form;
       outlets = outlets;
       words = kept.words;
       boxes = kept.boxes;
@@ -40,24 +42,25 @@ first_mail part kept outlets =
     }
 
 -- the peer at a place is ready
-pub ready_at : (plan : Plan) (me : ℕ) (parker : TableId) (digest : List ℕ) (count : ℕ) (boxes : List BoxModel) (readers : List ReaderPartsModel) → ArePeersReady plan me parker digest count boxes readers → (place : ℕ) (d : ReaderPartsModel) → place < length readers
-    → IsPeerReady plan me parker digest (party_at me place) (slice_index_or boxes place no_box) (get_or readers place d)
-ready_at plan me parker digest count boxes readers h place d l =
+pub ready_at : (plan : Plan) (me : ℕ) (parker : TableId) (digest : List ℕ) (form : FrameForm) (count : ℕ) (boxes : List BoxModel) (readers : List ReaderPartsModel) → ArePeersReady plan me parker digest form count boxes readers → (place : ℕ) (d : ReaderPartsModel) → place < length readers
+    → IsPeerReady plan me parker digest form (party_at me place) (slice_index_or boxes place no_box) (get_or readers place d)
+ready_at plan me parker digest form count boxes readers h place d l =
     let x = element_there readers place l in
-    subst (IsPeerReady plan me parker digest (party_at me place) (slice_index_or boxes place no_box)) (sym (stands_at readers place x.0 d x.1).1) (h.each place x.0 x.1)
+    subst (IsPeerReady plan me parker digest form (party_at me place) (slice_index_or boxes place no_box)) (sym (stands_at readers place x.0 d x.1).1) (h.each place x.0 x.1)
 
 -- what is expected of the peer at a place, by equal parts
-abbrev talk_at : Plan → ℕ → List ℕ → ℕ → TalkModel
-talk_at plan me digest k =
-    record { peer = party_at me k; me = me; digest = digest; bits = plan.bits; keys = messages_between plan (party_at me k) me }
+abbrev talk_at : Plan → ℕ → List ℕ → FrameForm → ℕ → TalkModel
+talk_at plan me digest form k =
+    record { peer = party_at me k; me = me; digest = digest; bits = plan.bits; keys = messages_between plan (party_at me k) me; form = form }
 
-talk_of : (plan plan' : Plan) (me me' : ℕ) (digest digest' : List ℕ) (k : ℕ) → plan ≡ plan' → me ≡ me' → digest ≡ digest' → talk_at plan me digest k ≡ talk_at plan' me' digest' k
-talk_of plan plan' me me' digest digest' k p q r = ap (λ z. talk_at z me digest k) p ∙ ap (λ z. talk_at plan' z digest k) q ∙ ap (λ z. talk_at plan' me' z k) r
+talk_of : (plan plan' : Plan) (me me' : ℕ) (digest digest' : List ℕ) (form form' : FrameForm) (k : ℕ) → plan ≡ plan' → me ≡ me' → digest ≡ digest' → form ≡ form' → talk_at plan me digest form k ≡ talk_at plan' me' digest' form' k
+talk_of plan plan' me me' digest digest' form form' k p q r f =
+    ap (λ z. talk_at z me digest form k) p ∙ ap (λ z. talk_at plan' z digest form k) q ∙ ap (λ z. talk_at plan' me' z form k) r ∙ ap (λ z. talk_at plan' me' digest' z k) f
 
 module _ (part : NodePart) (kept : Kept) (h : IsNodeReady part kept) where
   -- some party of the plan
   some : Node
-  some = record { world = record { plan = part.plan; inputs = []; tapes = [] }; me = part.me; digest = [] }
+  some = record { world = record { plan = part.plan; inputs = []; tapes = [] }; me = part.me; digest = []; form = part.form }
 
   pub is_mail : (outlets : List OutletReading) → length outlets ≡ part.plan.parties - 1 → IsMail (first_mail part kept outlets)
   unfolding some
@@ -93,9 +96,9 @@ module _ (part : NodePart) (kept : Kept) (h : IsNodeReady part kept) where
 
   -- over an equal plan
   pub is_mail_at : (plan : Plan) → plan ≡ part.plan → (outlets : List OutletReading) → length outlets ≡ part.plan.parties - 1
-      → IsMail (record { plan = plan; me = part.me; outlets = outlets; words = kept.words; boxes = kept.boxes; places = kept.places; failed = None })
+      → IsMail (record { plan = plan; me = part.me; form = part.form; outlets = outlets; words = kept.words; boxes = kept.boxes; places = kept.places; failed = None })
   is_mail_at plan same outlets many =
-      subst (λ z. IsMail (record { plan = z; me = part.me; outlets = outlets; words = kept.words; boxes = kept.boxes; places = kept.places; failed = None })) (sym same) (is_mail outlets many)
+      subst (λ z. IsMail (record { plan = z; me = part.me; form = part.form; outlets = outlets; words = kept.words; boxes = kept.boxes; places = kept.places; failed = None })) (sym same) (is_mail outlets many)
 
   module _ (n : Node) (of : IsNodeOf part n) (before : LinksReading) (peers : HasPeers (part.plan.parties - 1) before) where
     own_part : IsPart n.world n.me
@@ -113,6 +116,7 @@ module _ (part : NodePart) (kept : Kept) (h : IsNodeReady part kept) where
         digest = ap (λ z. length z) of.digest ∙ h.fits.digest;
         plan = sym of.plan;
         me = sym of.me;
+        form = sym of.form;
         ids = refl;
         cells = h.words.count ∙ ap (λ z. length (messages z)) (sym of.plan);
       };
@@ -128,9 +132,9 @@ module _ (part : NodePart) (kept : Kept) (h : IsNodeReady part kept) where
         same r = ap (λ z. (slice_index_or before.outlets (place_among z r) no_outlet).sink) (sym of.me)
 
     pub greeted_at : (plan : Plan) → plan ≡ part.plan → Greeted n 0 (record { links = before; ids = ids_of kept.boxes })
-        (record { plan = plan; me = part.me; outlets = before.outlets; words = kept.words; boxes = kept.boxes; places = kept.places; failed = None })
+        (record { plan = plan; me = part.me; form = part.form; outlets = before.outlets; words = kept.words; boxes = kept.boxes; places = kept.places; failed = None })
     greeted_at plan same =
-        subst (λ z. Greeted n 0 (record { links = before; ids = ids_of kept.boxes }) (record { plan = z; me = part.me; outlets = before.outlets; words = kept.words; boxes = kept.boxes; places = kept.places; failed = None })) (sym same) greeted
+        subst (λ z. Greeted n 0 (record { links = before; ids = ids_of kept.boxes }) (record { plan = z; me = part.me; form = part.form; outlets = before.outlets; words = kept.words; boxes = kept.boxes; places = kept.places; failed = None })) (sym same) greeted
 
     pub had_peers : HasPeers (n.world.plan.parties - 1) before
     had_peers = subst (λ z. HasPeers (z.parties - 1) before) (sym of.plan) peers
@@ -159,8 +163,8 @@ module _ (part : NodePart) (kept : Kept) (h : IsNodeReady part kept) where
         is_for : (k : ℕ) (d : ReaderPartsModel) → slice_get kept.readers k ≡ Some d → IsFor n (record { links = before; ids = ids_of kept.boxes }) k d
         is_for k d is =
             let there = get_or_from_slice_get kept.readers k d d is in
-            let r = ready_at part.plan part.me kept.parker part.digest (part.plan.parties - 1) kept.boxes kept.readers h.peers k d (slice_get_within kept.readers k d is) in
+            let r = ready_at part.plan part.me kept.parker part.digest part.form (part.plan.parties - 1) kept.boxes kept.readers h.peers k d (slice_get_within kept.readers k d is) in
             record {
-              talk = ap (λ (x : ReaderPartsModel). x.talk) (sym there) ∙ r.talk ∙ talk_of part.plan n.world.plan part.me n.me part.digest n.digest k (sym of.plan) (sym of.me) (sym of.digest);
+              talk = ap (λ (x : ReaderPartsModel). x.talk) (sym there) ∙ r.talk ∙ talk_of part.plan n.world.plan part.me n.me part.digest n.digest part.form n.form k (sym of.plan) (sym of.me) (sym of.digest) (sym of.form);
               id = ap (λ (x : ReaderPartsModel). x.id) (sym there) ∙ r.id ∙ id_of kept.boxes k;
             }

@@ -1,5 +1,5 @@
 -- What one step of a desk does to a node.
-use Rattle.std.proofs.Common.{◌≡◌, ◌≢◌, ◌⊎◌, ℕ, suc, ◌+◌, ◌<◌, nat_eq, List, [], ◌∷◌, ◌++◌, length, refl, sym, ap, ◌∙◌, subst, arith, ⊎_elim, Option, Some, None, Result, Ok, Err}
+use Rattle.std.proofs.Common.{◌≡◌, ◌≢◌, ◌⊎◌, ℕ, suc, ◌+◌, ◌<◌, nat_eq, List, [], ◌∷◌, ◌++◌, length, refl, sym, ap, ◌∙◌, subst, arith, inl as sum_inl, ⊎_elim, Option, Some, None, Result, Ok, Err}
 use Rattle.std.proofs.lemmas.Bool.{cases_eq, cases_lt, cond-true, cond-false, eq-eqb, ne_eqb}
 use Rattle.std.proofs.lemmas.List.{append-nil, take_all, get_or_past}
 use Rattle.std.specs.Prelude.{slice_index_or, ◌^◌}
@@ -33,8 +33,9 @@ use Rattle.outer_io.specs.Count.{Rose}
 use Rattle.outer_io.specs.Sink.{Writes, added, AddedPrefix}
 use Rattle.outer_io.specs.declared.sink.Failed.{Failed}
 use Rattle.outer_io.proofs.WrittenPieces.{added-append, prefix_second}
+use Rattle.frame_code.specs.declared.framing.Framing.{Framing}
 use Rattle.frame_code.specs.Frames.{frame}
-use Rattle.node_talk.specs.Talks.{Node, acts, IsPeer, own_word, said, frames, post_to}
+use Rattle.node_talk.specs.Talks.{Node, framing, acts, IsPeer, own_word, said, frames, post_to}
 use Rattle.node_talk.specs.PeerLinks.{place_among, no_outlet, out_to}
 use Rattle.node_talk.proofs.Frames.{said_step}
 use Rattle.node_talk.proofs.ExpectedPlaces.{between_parties}
@@ -81,12 +82,12 @@ node_cells = record {
 pub are_node_cells : AreNodeCells node_cells
 are_node_cells = record { may_post = λ c m w h. h; may_take = λ c m h. h; put = λ c m w p d h. h; took = λ c m a d h. h; got = λ c m w h. h }
 
-module _ (plan : Plan) (m i : ℕ) (word : Key → ℕ) where
-  post_here : (q : ℕ) → (message plan m).receiver ≡ q → frames word (post_to plan q (Post m i)) ≡ frame (message plan m) (word (message plan m))
-  post_here q e = ap (frames word) (cond-true (nat_eq (message plan m).receiver q) (message plan m ∷ []) [] (eq-eqb _ q e)) ∙ append-nil (frame (message plan m) (word (message plan m)))
+module _ (r : Framing) (plan : Plan) (m i : ℕ) (word : Key → ℕ) where
+  post_here : (q : ℕ) → (message plan m).receiver ≡ q → frames r word (post_to plan q (Post m i)) ≡ frame r (message plan m) (word (message plan m))
+  post_here q e = ap (frames r word) (cond-true (nat_eq (message plan m).receiver q) (message plan m ∷ []) [] (eq-eqb _ q e)) ∙ append-nil (frame r (message plan m) (word (message plan m)))
 
-  post_there : (q : ℕ) → (message plan m).receiver ≢ q → frames word (post_to plan q (Post m i)) ≡ []
-  post_there q ne = ap (frames word) (cond-false (nat_eq (message plan m).receiver q) (message plan m ∷ []) [] (ne_eqb _ q ne))
+  post_there : (q : ℕ) → (message plan m).receiver ≢ q → frames r word (post_to plan q (Post m i)) ≡ []
+  post_there q ne = ap (frames r word) (cond-false (nat_eq (message plan m).receiver q) (message plan m ∷ []) [] (ne_eqb _ q ne))
 
 -- a look into an inbox leaves a desk where it was
 module _ (n : Node) (s : ℕ) (start : Begin) (d : Desk) (c : Mail) (h : InSession n s start d c) where
@@ -103,6 +104,7 @@ module _ (n : Node) (s : ℕ) (start : Begin) (d : Desk) (c : Mail) (h : InSessi
             digest = h.going.own.digest;
             plan = ap (λ (z : Mail). z.plan) rest ∙ h.going.own.plan;
             me = ap (λ (z : Mail). z.me) rest ∙ h.going.own.me;
+            form = ap (λ (z : Mail). z.form) rest ∙ h.going.own.form;
             ids = ids ∙ h.going.own.ids;
             cells = ap length same ∙ h.going.own.cells;
           };
@@ -189,10 +191,10 @@ module _ (cells : Meaning Mail) (are : AreNodeCells cells) (n : Node) (s : ℕ) 
     act_is : at (acts n) k ≡ e
     act_is = at_act n s d.position h.session more
 
-    said_more : (q : ℕ) (word : Key → ℕ) (bytes : List ℕ) → frames word (post_to plan q e) ≡ bytes → said n q word (suc k) ≡ said n q word k ++ bytes
-    said_more q word bytes is = said_step n q word k lk ∙ ap (λ z. said n q word k ++ frames word (post_to plan q z)) act_is ∙ ap (λ z. said n q word k ++ z) is
+    said_more : (q : ℕ) (word : Key → ℕ) (bytes : List ℕ) → frames (framing n) word (post_to plan q e) ≡ bytes → said n q word (suc k) ≡ said n q word k ++ bytes
+    said_more q word bytes is = said_step n q word k lk ∙ ap (λ z. said n q word k ++ frames (framing n) word (post_to plan q z)) act_is ∙ ap (λ z. said n q word k ++ z) is
 
-    said_same : (q : ℕ) (word : Key → ℕ) → frames word (post_to plan q e) ≡ [] → said n q word (suc k) ≡ said n q word k
+    said_same : (q : ℕ) (word : Key → ℕ) → frames (framing n) word (post_to plan q e) ≡ [] → said n q word (suc k) ≡ said n q word k
     said_same q word none = said_more q word [] none ∙ append-nil (said n q word k)
 
     -- ---- nothing was said
@@ -200,12 +202,12 @@ module _ (cells : Meaning Mail) (are : AreNodeCells cells) (n : Node) (s : ℕ) 
     module _ (c' : Mail) (own : IsOf n start c') (outlets : c'.outlets ≡ c.outlets) (failed : c'.failed ≡ c.failed) (me : c'.me ≡ c.me)
         (keeps : (m v : ℕ) → plain_cell c.words.cells m ≡ Some v → plain_cell c'.words.cells m ≡ Some v)
         (own_words : KeepsOwn n c'.words.cells) (posted : HasPosted n (suc (before_session n s + d.position)) c'.words.cells)
-        (no_post : (q : ℕ) → IsPeer n q → (word : Key → ℕ) → frames word (post_to plan q e) ≡ []) (took : (m i : ℕ) → e ≡ Take m i → (v : ℕ) × (plain_cell c'.words.cells m ≡ Some v)) where
+        (no_post : (q : ℕ) → IsPeer n q → (word : Key → ℕ) → frames (framing n) word (post_to plan q e) ≡ []) (took : (m i : ℕ) → e ≡ Take m i → (v : ℕ) × (plain_cell c'.words.cells m ≡ Some v)) where
       outlet_same : (q : ℕ) → outlet_to c' q ≡ outlet_to c q
       outlet_same q = ap (λ z. (slice_index_or z (place_among c'.me q) no_outlet).sink) outlets ∙ ap (λ z. (slice_index_or c.outlets (place_among z q) no_outlet).sink) me
 
       no_bytes : (q : ℕ) → IsPeer n q → said_bytes n q k ≡ said_bytes n q (suc k)
-      no_bytes q peer = let a = bytes_more n q k (λ (key : Key). 0) [] lk (ap (λ z. frames (λ (key : Key). 0) (post_to plan q z)) act_is ∙ no_post q peer (λ (key : Key). 0)) in omega (arith, a)
+      no_bytes q peer = let a = bytes_more n q k (λ (key : Key). 0) [] lk (ap (λ z. frames (framing n) (λ (key : Key). 0) (post_to plan q z)) act_is ∙ no_post q peer (λ (key : Key). 0)) in omega (arith, a)
 
       pub goes_on : Going n (suc k) start c'
       goes_on = record {
@@ -281,18 +283,19 @@ module _ (cells : Meaning Mail) (are : AreNodeCells cells) (n : Node) (s : ℕ) 
           digest = h.going.own.digest;
           plan = ap (λ (z : Mail). z.plan) same.1 ∙ h.going.own.plan;
           me = ap (λ (z : Mail). z.me) same.1 ∙ h.going.own.me;
+          form = ap (λ (z : Mail). z.form) same.1 ∙ h.going.own.form;
           ids = ap (λ (z : Mail). ids_of z.boxes) same.1 ∙ h.going.own.ids;
           cells = count';
         }) (ap (λ (z : Mail). z.outlets) same.1) (ap (λ (z : Mail). z.failed) same.1) (ap (λ (z : Mail). z.me) same.1) kept_still own_words' posted'
-            (λ q peer word. ap (λ z. frames word (post_to plan q z)) is ∙ post_there plan m i word q (λ e'. peer.1 (sym e' ∙ to)))
+            (λ q peer word. ap (λ z. frames (framing n) word (post_to plan q z)) is ∙ post_there (framing n) plan m i word q (λ e'. peer.1 (sym e' ∙ to)))
             (λ m' i' f. absurd (not_take m' i' f))
 
       -- ---- where it goes to a peer
 
       module _ (other : (message n.world.plan m).receiver ≢ n.me)
-          (sents : (got : Key → ℕ) → Agrees n c.words.cells got → SentTo (message n.world.plan m).receiver (frame (message n.world.plan m) (own_word n got (message n.world.plan m))) (with_post c m (own_word n got (message n.world.plan m))) c') where
+          (sents : (got : Key → ℕ) → Agrees n c.words.cells got → SentTo (message n.world.plan m).receiver (frame (framing n) (message n.world.plan m) (own_word n got (message n.world.plan m))) (with_post c m (own_word n got (message n.world.plan m))) c') where
         abbrev bytes : (Key → ℕ) → List ℕ
-        bytes got = frame (message plan m) (own_word n got (message plan m))
+        bytes got = frame (framing n) (message plan m) (own_word n got (message plan m))
 
         some_sent : SentTo to_q (bytes (known n c.words.cells)) (with_post c m (own_word n (known n c.words.cells) (message plan m))) c'
         some_sent = sents (known n c.words.cells) (agrees_known n c.words.cells h.going.own.cells)
@@ -301,10 +304,10 @@ module _ (cells : Meaning Mail) (are : AreNodeCells cells) (n : Node) (s : ℕ) 
         to_peer = let b = between_parties n h.going.own.part m there in (b.receiver, other)
 
         said_here : (got : Key → ℕ) → said n to_q (own_word n got) (suc k) ≡ said n to_q (own_word n got) k ++ bytes got
-        said_here got = said_more to_q (own_word n got) (bytes got) (ap (λ z. frames (own_word n got) (post_to plan to_q z)) is ∙ post_here plan m i (own_word n got) to_q refl)
+        said_here got = said_more to_q (own_word n got) (bytes got) (ap (λ z. frames (framing n) (own_word n got) (post_to plan to_q z)) is ∙ post_here (framing n) plan m i (own_word n got) to_q refl)
 
         said_there : (got : Key → ℕ) (q : ℕ) → to_q ≢ q → said n q (own_word n got) (suc k) ≡ said n q (own_word n got) k
-        said_there got q ne = said_same q (own_word n got) (ap (λ z. frames (own_word n got) (post_to plan q z)) is ∙ post_there plan m i (own_word n got) q ne)
+        said_there got q ne = said_same q (own_word n got) (ap (λ z. frames (framing n) (own_word n got) (post_to plan q z)) is ∙ post_there (framing n) plan m i (own_word n got) q ne)
 
         outlet_there : (q : ℕ) → IsPeer n q → to_q ≢ q → outlet_to c' q ≡ outlet_to c q
         outlet_there q peer ne = ap (λ z. z.sink) (some_sent.others q (subst (λ z. q < z.parties) (sym h.going.own.plan) peer.0) (λ f. peer.1 (f ∙ h.going.own.me)) (λ f. ne (sym f)))
@@ -315,6 +318,7 @@ module _ (cells : Meaning Mail) (are : AreNodeCells cells) (n : Node) (s : ℕ) 
           digest = h.going.own.digest;
           plan = ap (λ (z : Mail). z.plan) some_sent.rest ∙ h.going.own.plan;
           me = ap (λ (z : Mail). z.me) some_sent.rest ∙ h.going.own.me;
+          form = ap (λ (z : Mail). z.form) some_sent.rest ∙ h.going.own.form;
           ids = ap (λ (z : Mail). ids_of z.boxes) some_sent.rest ∙ h.going.own.ids;
           cells = count';
         }
@@ -328,10 +332,10 @@ module _ (cells : Meaning Mail) (are : AreNodeCells cells) (n : Node) (s : ℕ) 
 
         -- how many bytes a frame adds
         bytes_here : (got : Key → ℕ) → said_bytes n to_q (suc k) ≡ said_bytes n to_q k + length (bytes got)
-        bytes_here got = bytes_more n to_q k (own_word n got) (bytes got) lk (ap (λ z. frames (own_word n got) (post_to plan to_q z)) (act_is ∙ is) ∙ post_here plan m i (own_word n got) to_q refl)
+        bytes_here got = bytes_more n to_q k (own_word n got) (bytes got) lk (ap (λ z. frames (framing n) (own_word n got) (post_to plan to_q z)) (act_is ∙ is) ∙ post_here (framing n) plan m i (own_word n got) to_q refl)
 
         bytes_there : (q : ℕ) → to_q ≢ q → said_bytes n q k ≡ said_bytes n q (suc k)
-        bytes_there q ne = let a = bytes_more n q k (λ (key : Key). 0) [] lk (ap (λ z. frames (λ (key : Key). 0) (post_to plan q z)) (act_is ∙ is) ∙ post_there plan m i (λ (key : Key). 0) q ne) in omega (arith, a)
+        bytes_there q ne = let a = bytes_more n q k (λ (key : Key). 0) [] lk (ap (λ z. frames (framing n) (λ (key : Key). 0) (post_to plan q z)) (act_is ∙ is) ∙ post_there (framing n) plan m i (λ (key : Key). 0) q ne) in omega (arith, a)
 
         by_result : (xs : List ℕ) (r : Result (Unit {0}) Failed) → Writes xs (outlet_to c to_q) (outlet_to c' to_q) r → c'.failed ≡ failed_after to_q r c.failed → (c'.failed ≡ None → All xs) × (c'.failed ≢ None → Part xs)
         by_result xs (Ok u) w kept = (λ quiet. (w.ok, sent_ok xs _ _ u w), λ some. absurd (some (kept ∙ h.going.quiet)))
@@ -392,7 +396,18 @@ module _ (cells : Meaning Mail) (are : AreNodeCells cells) (n : Node) (s : ℕ) 
                   | right' ne ↦ whole_prefix (said n q (own_word n got) (suc k)) _ _ (ap (λ z. z.told) (outlet_there q peer ne) ∙ h.going.sent got before' q peer ∙ ap (added (out_to n start.links q).told) (sym (said_there got q ne)))
                 ];
           };
-          why = subst (StopsBy n (suc k) start c') (sym (some_written.1 some).2) (to_peer, subst (λ z. Rose z (outlet_to c' to_q).faults) (h.going.calm to_q to_peer) (some_written.1 some).1);
+          why = subst (StopsBy n (suc k) start c') (sym (some_written.1 some).2) (
+            to_peer,
+            subst (λ z. Rose z (outlet_to c' to_q).faults) (h.going.calm to_q to_peer) (some_written.1 some).1,
+            λ got agrees.
+                let before' = agrees_before got agrees in
+                sum_inl (record {
+                  itself = sum_inl (k, m, i, refl, act_is ∙ is, refl, subst (λ z. AddedPrefix z (bytes got) (outlet_to c' to_q).told) (h.going.sent got before' to_q to_peer) ((written got before').1 some).0);
+                  others = λ q peer ne.
+                      let apart : to_q ≢ q = (λ f. ne (sym f)) in
+                      ap (λ z. z.told) (outlet_there q peer apart) ∙ h.going.sent got before' q peer ∙ ap (added (out_to n start.links q).told) (sym (said_there got q apart));
+                }),
+          );
           outlets = λ q peer. elim (cases_eq to_q q) [
             | left' eq ↦ subst (λ z. OutletStays n z c'.failed (out_to n start.links z) (outlet_to c' z)) eq
                 (failed_stays n to_q c'.failed (said_bytes n to_q k) (bytes old_words) _ _ _ (some_written.1 some).2 (h.going.calm to_q to_peer) (h.going.room to_q to_peer)
@@ -431,12 +446,12 @@ module _ (cells : Meaning Mail) (are : AreNodeCells cells) (n : Node) (s : ℕ) 
     in_session g desk = record { session = h.session; desk = desk; going = subst (λ z. Going n z start c') (sym next_place) g }
 
     -- an instruction without a message
-    stays : (i : Instruction) → e ≡ i → (i ≡ End → ⊥) → ((q : ℕ) (word : Key → ℕ) → frames word (post_to plan q i) ≡ []) → ((m j : ℕ) → i ≡ Post m j → ⊥) → ((m j : ℕ) → i ≡ Take m j → ⊥) → c' ≡ c → ((got : Key → ℕ) → Agrees n c'.words.cells got → IsDesk (l got) d') → Next
+    stays : (i : Instruction) → e ≡ i → (i ≡ End → ⊥) → ((q : ℕ) (word : Key → ℕ) → frames (framing n) word (post_to plan q i) ≡ []) → ((m j : ℕ) → i ≡ Post m j → ⊥) → ((m j : ℕ) → i ≡ Take m j → ⊥) → c' ≡ c → ((got : Key → ℕ) → Agrees n c'.words.cells got → IsDesk (l got) d') → Next
     stays i is ne no_post not_post no_take same desk =
         let more = inside (λ f. ne (sym is ∙ f)) in
         let g = goes_on more c' (subst (IsOf n start) (sym same) h.going.own) (ap (λ z. z.outlets) same) (ap (λ z. z.failed) same) (ap (λ z. z.me) same) keeps (subst (λ (z : Mail). KeepsOwn n z.words.cells) (sym same) h.going.own_words)
         (later_posted n k c'.words.cells (λ j m i' less f. let v = h.going.posted j m i' less f in (v.0, keeps m v.0 v.1)) (λ m j f. absurd (not_post m j (sym is ∙ sym (act_is more) ∙ f))))
-        (λ q peer word. ap (λ z. frames word (post_to plan q z)) is ∙ no_post q word) (λ m j f. absurd (no_take m j (sym is ∙ f))) in
+        (λ q peer word. ap (λ z. frames (framing n) word (post_to plan q z)) is ∙ no_post q word) (λ m j f. absurd (no_take m j (sym is ∙ f))) in
         (λ quiet. in_session g desk, λ some. absurd (some (ap (λ z. z.failed) same ∙ h.going.quiet)))
 
     taken : (m j : ℕ) → e ≡ Take m j → (m < length (messages n.world.plan)) × ((message n.world.plan m).receiver ≡ n.me)
@@ -471,6 +486,7 @@ module _ (cells : Meaning Mail) (are : AreNodeCells cells) (n : Node) (s : ℕ) 
           digest = h.going.own.digest;
           plan = ap (λ z. z.plan) t.rest ∙ h.going.own.plan;
           me = ap (λ z. z.me) t.rest ∙ h.going.own.me;
+          form = ap (λ z. z.form) t.rest ∙ h.going.own.form;
           ids = t.ids ∙ h.going.own.ids;
           cells = t.count ∙ h.going.own.cells;
         } in
@@ -478,7 +494,7 @@ module _ (cells : Meaning Mail) (are : AreNodeCells cells) (n : Node) (s : ℕ) 
         let g = goes_on more c' own (ap (λ z. z.outlets) t.rest) (ap (λ z. z.failed) t.rest) (ap (λ z. z.me) t.rest) keeps
         (own_after m j x.0 is t.answers.1 lm)
         (later_posted n k c'.words.cells (λ j' m' i' less f. let v = h.going.posted j' m' i' less f in (v.0, keeps m' v.0 v.1)) (λ m' j' f. absurd (let other : Take m j ≡ Post m' j' = sym is ∙ sym (act_is more) ∙ f in cc)))
-        (λ q peer word. ap (λ z. frames word (post_to plan q z)) is)
+        (λ q peer word. ap (λ z. frames (framing n) word (post_to plan q z)) is)
         (λ m' j' f. let same : Take m j ≡ Take m' j' = sym is ∙ f in let one : m ≡ m' = cc in (x.0, ap (plain_cell c'.words.cells) (sym one) ∙ known_now)) in
         (λ quiet. in_session g (λ got ag. hears got ag), λ some. absurd (some (ap (λ z. z.failed) t.rest ∙ h.going.quiet)))
       where
@@ -517,11 +533,12 @@ module _ (cells : Meaning Mail) (are : AreNodeCells cells) (n : Node) (s : ℕ) 
         kept : (got : Key → ℕ) → Agrees n c.words.cells got → (message plan m).receiver ≡ n.me → c'.words.cells ≡ plain_put c.words.cells m (own_word n got (message plan m))
         kept got ag to = ap (λ (z : Mail). z.words.cells) (stayed got ag to)
 
-        sent : (got : Key → ℕ) → Agrees n c.words.cells got → (message plan m).receiver ≢ n.me → SentTo (message plan m).receiver (frame (message plan m) (own_word n got (message plan m))) (with_post c m (own_word n got (message plan m))) c'
+        sent : (got : Key → ℕ) → Agrees n c.words.cells got → (message plan m).receiver ≢ n.me → SentTo (message plan m).receiver (frame (framing n) (message plan m) (own_word n got (message plan m))) (with_post c m (own_word n got (message plan m))) c'
         sent got ag other =
             let receiver : (message c.plan m).receiver ≡ (message plan m).receiver = ap (λ z. (message z m).receiver) h.going.own.plan in
-            subst (λ z. SentTo (message z m).receiver (frame (message z m) (own_word n got (message plan m))) (with_post c m (own_word n got (message plan m))) c') h.going.own.plan
-            ((put_of got ag).goes (λ f. other (sym receiver ∙ f ∙ h.going.own.me)))
+            subst (λ f. SentTo (message plan m).receiver (frame (record { form = f; bits = plan.bits }) (message plan m) (own_word n got (message plan m))) (with_post c m (own_word n got (message plan m))) c') h.going.own.form
+            (subst (λ z. SentTo (message z m).receiver (frame (record { form = c.form; bits = z.bits }) (message z m) (own_word n got (message plan m))) (with_post c m (own_word n got (message plan m))) c') h.going.own.plan
+            ((put_of got ag).goes (λ f. other (sym receiver ∙ f ∙ h.going.own.me))))
 
     moved_at : (i : Instruction) → e ≡ i → Next
     moved_at (Post m j) is = posts m j is

@@ -16,6 +16,8 @@ use Rattle.outer_io.specs.Links.{are_flushed}
 use Rattle.outer_io.specs.Outlet.{OutletReading}
 use Rattle.outer_io.specs.Sink.{SinkReading, Writes}
 use Rattle.outer_io.specs.declared.sink.Failed.{Failed}
+use Rattle.frame_code.specs.declared.framing.FrameForm.{FrameForm}
+use Rattle.frame_code.specs.declared.framing.Framing.{Framing}
 use Rattle.frame_code.specs.Frames.{frame}
 use Rattle.node_talk.specs.Talks.{goes}
 use Rattle.node_talk.specs.PeerLinks.{place_among, no_outlet}
@@ -30,6 +32,7 @@ pub record BoxModel : Type 0 where
 pub record Mail : Type 0 where
   pub plan : Plan
   pub me : ℕ
+  pub form : FrameForm
   pub outlets : List OutletReading
   pub words : CellContents
   pub boxes : List BoxModel
@@ -37,6 +40,10 @@ pub record Mail : Type 0 where
   pub places : List ℕ
   -- the peer to which a send failed
   pub failed : Option ℕ
+
+-- how messages are framed
+abbrev pub framing_with : Mail → Framing
+framing_with x = record { form = x.form; bits = x.plan.bits }
 
 -- the outlet to q
 abbrev pub link_to : Mail → ℕ → OutletReading
@@ -121,7 +128,8 @@ pub record FlushedTo (q : ℕ) (before after : Mail) : Type 0 where
 pub record Posts (before : Mail) (m word : ℕ) (after : Mail) : Type 0 where
   pub stays : (message before.plan m).receiver ≡ before.me → after ≡ with_post before m word
   pub goes : (message before.plan m).receiver ≢ before.me
-      → SentTo (message before.plan m).receiver (frame (message before.plan m) word) (with_post before m word) after
+      → SentTo (message before.plan m).receiver (frame (framing_with before) (message before.plan m) word)
+      (with_post before m word) after
 
 -- the party sends message m, and this is a word of the ring
 pub record MayPost (x : Mail) (m word : ℕ) : Type 0 where

@@ -14,8 +14,9 @@ use Rattle.outer_io.specs.Count.{Rose}
 use Rattle.outer_io.specs.Links.{LinksReading}
 use Rattle.outer_io.specs.Sink.{SinkReading, added, AddedPrefix}
 use Rattle.frame_code.specs.Frames.{hello, frame_begin}
-use Rattle.node_talk.specs.Talks.{Node, acts, IsPeer, own_word, messages_between, posts_to, said}
+use Rattle.node_talk.specs.Talks.{Node, framing, acts, IsPeer, own_word, messages_between, posts_to, said}
 use Rattle.node_talk.specs.PeerLinks.{out_to}
+use Rattle.node_talk.specs.Runs.{FailsAfter, GoesOut}
 use Rattle.list_laws.specs.Lists.{joined}
 use Rattle.atomic_table.specs.Seated.{TableId}
 use Rattle.node_run.specs.Mail.{Mail, BoxModel, NeverComes, NothingWaits, link_to, outlet_to}
@@ -62,10 +63,10 @@ ids_of boxes = map (λ (b : BoxModel). b.id) boxes
 
 -- how many bytes the party says to q, and by its first k instructions, whatever the words are
 abbrev pub talk_bytes : Node → ℕ → ℕ
-talk_bytes n q = frame_begin (length (messages_between n.world.plan n.me q))
+talk_bytes n q = frame_begin (framing n) (length (messages_between n.world.plan n.me q))
 
 abbrev pub said_bytes : Node → ℕ → ℕ → ℕ
-said_bytes n q k = frame_begin (length (posts_to n q k))
+said_bytes n q k = frame_begin (framing n) (length (posts_to n q k))
 
 -- a steady outlet that took `bytes` bytes is steady, with room for as many less
 pub record KeepsRoom (bytes : ℕ) (before after : SinkReading) : Type 0 where
@@ -86,6 +87,7 @@ pub record IsOf (n : Node) (start : Begin) (now : Mail) : Type 0 where
   pub digest : length n.digest ≡ 32
   pub plan : now.plan ≡ n.world.plan
   pub me : now.me ≡ n.me
+  pub form : now.form ≡ n.form
   pub ids : ids_of now.boxes ≡ start.ids
   pub cells : length now.words.cells ≡ length (messages n.world.plan)
 
@@ -112,9 +114,16 @@ pub record Stopped (n : Node) (k : ℕ) (start : Begin) (now : Mail) : Type 0 wh
   pub sent : (got : Key → ℕ) → Agrees n now.words.cells got → (q : ℕ) → IsPeer n q
       → AddedPrefix (out_to n start.links q).told (said n q (own_word n got) k) (outlet_to now q).told
 
+-- the send to q failed after the first k instructions, whatever words are still to come
+abbrev pub FailedAfter : Node → ℕ → Begin → Mail → ℕ → Type 0
+FailedAfter n k start now q =
+    (got : Key → ℕ) → Agrees n now.words.cells got
+    → FailsAfter n (own_word n got) k (out_to n start.links) (outlet_to now) q
+
 -- a send to a peer failed; or none did, and the next instruction takes a word that won't come
 abbrev pub StopsBy : Node → ℕ → Begin → Mail → Option ℕ → Type 0
-StopsBy n k start now (Some q) = IsPeer n q × Rose (out_to n start.links q).faults (outlet_to now q).faults
+StopsBy n k start now (Some q) =
+    IsPeer n q × Rose (out_to n start.links q).faults (outlet_to now q).faults × FailedAfter n k start now q
 StopsBy n k start now None =
     Going n k start now × ((m : ℕ) × (i : ℕ) × (at (acts n) k ≡ Take m i) × NeverComes now m)
 
@@ -132,11 +141,11 @@ pub record FlushedBelow (q : ℕ) (before now : Mail) : Type 0 where
   pub out : (r : ℕ) → r < before.plan.parties → r ≢ before.me → r < q → (link_to now r).holds ≡ false
   pub going : (n : Node) (k : ℕ) (start : Begin) → Going n k start before → Going n k start now
 
--- a flush failed, which ends a run
+-- a flush failed, which ends a run where what was said was to go out
 pub record FlushFailed (before now : Mail) : Type 0 where
   pub rest : now ≡ record before { outlets = now.outlets; failed = now.failed }
   pub some : now.failed ≢ None
-  pub halted : (n : Node) (k : ℕ) (start : Begin) → Going n k start before → Halted n start now
+  pub halted : (n : Node) (k : ℕ) (start : Begin) → Going n k start before → GoesOut n k → Halted n start now
 
 -- ---- hellos
 

@@ -5,6 +5,7 @@ use Rattle.std.specs.List.{concat}
 use Rattle.atomic_table.specs.Seated.{TableId}
 use Rattle.inbox_board.specs.Rule.{newcomer}
 use Rattle.message_board.specs.Plain.{CellContents, plain_cell}
+use Rattle.frame_code.specs.declared.framing.FrameForm.{FrameForm}
 use Rattle.job_plan.specs.Plans.{Plan}
 use Rattle.job_plan.specs.Sound.{IsSound}
 use Rattle.job_plan.specs.Messages.{messages}
@@ -18,12 +19,13 @@ use Rattle.link_reader.specs.Expected.{HasPlaces}
 use Rattle.node_run.specs.Mail.{BoxModel, no_box}
 use Rattle.node_run.specs.Remains.{ReaderPartsModel, party_at}
 
--- the plan, which party, its inputs and the pieces of its tape by session, and the job's digest
+-- the plan, which party, its inputs and the pieces of its tape by session, and the job's digest and form of frames
 pub record NodePart : Type 0 where
   pub plan : Plan
   pub me : ℕ
   pub given : PartyForm
   pub digest : List ℕ
+  pub form : FrameForm
 
 -- these inputs and these pieces of tape, by session
 abbrev pub given_words : List (Vec ℕ) → List (List ℕ) → PartyForm
@@ -43,6 +45,7 @@ pub record IsNodeOf (part : NodePart) (n : Node) : Type 0 where
   pub inputs : slice_index_or n.world.inputs part.me [] ≡ part.given.inputs
   pub tape : slice_index_or n.world.tapes part.me [] ≡ concat part.given.tapes
   pub digest : n.digest ≡ part.digest
+  pub form : n.form ≡ part.form
 
 -- a plan within the limits, a party of it, what it gives fits the plan, and a digest of 32 bytes
 pub record IsNodePart (part : NodePart) : Type 0 where
@@ -75,28 +78,35 @@ pub record AreEmptyCells (plan : Plan) (words : CellContents) : Type 0 where
 
 -- an empty inbox with a place for each message from q, and the reader that fills it and wakes the party, which gave no
 -- token yet
-pub record IsPeerReady (plan : Plan) (me : ℕ) (parker : TableId) (digest : List ℕ) (q : ℕ) (box : BoxModel)
-    (reader : ReaderPartsModel) : Type 0 where
+pub record IsPeerReady (plan : Plan) (me : ℕ) (parker : TableId) (digest : List ℕ) (form : FrameForm) (q : ℕ)
+    (box : BoxModel) (reader : ReaderPartsModel) : Type 0 where
   pub places : box.places ≡ length (messages_between plan q me)
   pub view : box.view ≡ newcomer 0
   pub talk : reader.talk
-      ≡ record { peer = q; me = me; digest = digest; bits = plan.bits; keys = messages_between plan q me }
+      ≡ record {
+        peer = q;
+        me = me;
+        digest = digest;
+        bits = plan.bits;
+        keys = messages_between plan q me;
+        form = form;
+      }
   pub id : reader.id ≡ box.id
   pub waker : reader.waker ≡ record { id = parker; given = 0 }
 
 -- these for each of the first peers, as many as are counted
-pub record ArePeersReady (plan : Plan) (me : ℕ) (parker : TableId) (digest : List ℕ) (count : ℕ)
+pub record ArePeersReady (plan : Plan) (me : ℕ) (parker : TableId) (digest : List ℕ) (form : FrameForm) (count : ℕ)
     (boxes : List BoxModel) (readers : List ReaderPartsModel) : Type 0 where
   pub box_count : length boxes ≡ count
   pub reader_count : length readers ≡ count
   pub each : (place : ℕ) (reader : ReaderPartsModel) → slice_get readers place ≡ Some reader
-      → IsPeerReady plan me parker digest (party_at me place) (slice_index_or boxes place no_box) reader
+      → IsPeerReady plan me parker digest form (party_at me place) (slice_index_or boxes place no_box) reader
 
 -- all is ready for the run of this part, and nothing is done yet
 pub record IsNodeReady (part : NodePart) (kept : Kept) : Type 0 where
   pub fits : IsNodePart part
   pub desks : AreOpened part.plan part.me part.given kept.desks
   pub words : AreEmptyCells part.plan kept.words
-  pub peers : ArePeersReady part.plan part.me kept.parker part.digest (part.plan.parties - 1) kept.boxes
-      kept.readers
+  pub peers : ArePeersReady part.plan part.me kept.parker part.digest part.form (part.plan.parties - 1)
+      kept.boxes kept.readers
   pub places : (n : Node) → n.world.plan ≡ part.plan → n.me ≡ part.me → HasPlaces n kept.places

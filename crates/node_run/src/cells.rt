@@ -5,7 +5,7 @@ ghost use Rattle.node_talk.specs.PeerLinks.{place_among};
 ghost use Rattle.node_run.specs.Mail.{SentTo};
 
 use crate::mailbox::Mailbox;
-use frame_code::frame;
+use frame_code::{FrameForm, Framing, frame};
 use job_plan::Plan;
 use message_board::{Cells, PlainCells, Posted};
 use outer_io::Outlet;
@@ -16,6 +16,7 @@ use std::marker::Model;
 pub struct NodeCells<'p, O: Outlet> {
     pub plan: &'p Plan,
     pub me: u32,
+    pub form: FrameForm,
     pub outlets: Vec<O>,
     pub words: PlainCells,
     pub boxes: Vec<Mailbox>,
@@ -32,6 +33,7 @@ impl<'p, O: Outlet> Model for NodeCells<'p, O> {
     ghost view = { λ c. record {
       plan = c.plan.now;
       me = c.me;
+      form = c.form;
       outlets = map O.reading c.outlets.items;
       words = c.words;
       boxes = c.boxes.items;
@@ -42,6 +44,7 @@ impl<'p, O: Outlet> Model for NodeCells<'p, O> {
     ghost invariant = { λ c. IsMail (record {
       plan = c.plan.now;
       me = c.me;
+      form = c.form;
       outlets = map O.reading c.outlets.items;
       words = c.words;
       boxes = c.boxes.items;
@@ -136,7 +139,12 @@ impl<'p, O: Outlet> Cells for NodeCells<'p, O> {
         let _ = self.words.post(number, word);
         let key = self.plan.message(number);
         if key.receiver != self.me {
-            self.send(key.receiver, &frame(&key, word));
+            let framing = Framing {
+                form: self.form,
+                bits: self.plan.ring().bits(),
+            };
+            let bytes = frame(framing, &key, word);
+            self.send(key.receiver, bytes.as_slice());
         }
         Posted::Done
     }

@@ -7,6 +7,7 @@ mod flushes;
 mod hellos;
 mod laws;
 mod mailbox;
+mod parking;
 mod readers;
 mod ready;
 mod run;

@@ -8,10 +8,11 @@ ghost use Rattle.node_run.specs.Remains.{MayRun, Remained};
 
 use crate::cells::NodeCells;
 use crate::mailbox::Mailbox;
+use crate::parking::Parking;
 use crate::sessions::run_sessions;
 use inbox_board::{Inbox, InboxSeat};
 use job_plan::Plan;
-use link_reader::{IncomingTalk, LinkReader, PartyParker, Waker};
+use link_reader::{IncomingTalk, LinkReader, Waker};
 use message_board::PlainCells;
 use node_talk::NodeFault;
 use outer_io::{Inlet, Outlet, Spawner};
@@ -237,7 +238,7 @@ pub fn read_peers<'p, I: Inlet + Drop, O: Outlet, W: Spawner<LinkReader<I>>, R: 
     mut readers: Vec<ReaderParts>,
     mut cells: NodeCells<'p, O>,
     mut desks: Vec<Desk>,
-    parker: &PartyParker,
+    parking: &Parking,
 ) -> Remains<O>
     requires same { vec_len readers ≡ vec_len inlets.old }
     requires run { (n : Node) × (start : Begin) × (place : ℕ) × (n.world.plan ≡ plan.now)
@@ -251,7 +252,7 @@ pub fn read_peers<'p, I: Inlet + Drop, O: Outlet, W: Spawner<LinkReader<I>>, R: 
     ensures capacity { vec_capacity inlets.new ≡ vec_capacity inlets.old }
 {
     if readers.is_empty() {
-        run_sessions(rt, plan, desks.as_mut_slice(), &mut cells, parker);
+        run_sessions(rt, plan, desks.as_mut_slice(), &mut cells, parking);
         return Remains::of(cells, desks, 0, None);
     }
     let waiting = readers.len();
@@ -266,7 +267,7 @@ pub fn read_peers<'p, I: Inlet + Drop, O: Outlet, W: Spawner<LinkReader<I>>, R: 
             Remains::of(cells, desks, waiting, Some(peer))
         }
         Ok(started) => {
-            let mut remains = read_peers(rt, plan, spawner, inlets, readers, cells, desks, parker);
+            let mut remains = read_peers(rt, plan, spawner, inlets, readers, cells, desks, parking);
             let (inlet, seat, outcome) = spawner.finish(started).into_parts();
             put_first(inlets, inlet);
             remains.close(seat, outcome);

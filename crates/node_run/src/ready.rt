@@ -6,6 +6,7 @@ ghost use Rattle.node_run.specs.Ready.{given_words, AreOpened, IsPeerReady, AreP
 
 use crate::mailbox::Mailbox;
 use crate::readers::ReaderParts;
+use frame_code::FrameForm;
 use inbox_board::Inbox;
 use job_plan::Plan;
 use link_reader::{IncomingTalk, PartyParker, message_places};
@@ -23,6 +24,7 @@ pub struct NodeReady {
     pub(crate) plan: Snapshot<Plan>,
     pub(crate) me: u32,
     pub(crate) digest: [u8; 32],
+    pub(crate) form: FrameForm,
     pub(crate) desks: Vec<Desk>,
     pub(crate) words: PlainCells,
     pub(crate) boxes: Vec<Mailbox>,
@@ -36,7 +38,13 @@ impl Model for NodeReady {
 
     ghost Value = { NodePart };
 
-    ghost view = { λ r. record { plan = r.plan.value; me = r.me; given = given_to r.desks.items; digest = r.digest } };
+    ghost view = { λ r. record {
+      plan = r.plan.value;
+      me = r.me;
+      given = given_to r.desks.items;
+      digest = r.digest;
+      form = r.form;
+    } };
 
     ghost invariant = { λ r. IsNodeReady (view r) (record {
       desks = r.desks.items;
@@ -53,8 +61,8 @@ impl NodeReady {
     ghost use Rattle.party_file.specs.Forms.{FitsPlan};
     ghost use Rattle.node_run.specs.Ready.{given_words};
 
-    /// Takes all memory that the run of party `me` needs, in a job of this plan and digest, with these inputs and these
-    /// pieces of its tape, by session.
+    /// Takes all memory that the run of party `me` needs, in a job of this plan, digest and form of frames, with these
+    /// inputs and these pieces of its tape, by session.
     pub fn make(
         alloc: Global,
         plan: &Plan,
@@ -62,6 +70,7 @@ impl NodeReady {
         inputs: &[Vec<u64>],
         tapes: Vec<Tape>,
         digest: &[u8; 32],
+        form: FrameForm,
     ) -> Result<NodeReady, AllocError>
         requires party { me < plan.now.parties }
         requires fits { FitsPlan plan.now me (given_words inputs.now tapes.items) }
@@ -70,17 +79,19 @@ impl NodeReady {
           me = me;
           given = given_words inputs.now tapes.items;
           digest = digest.now;
+          form = form;
         }) }
     {
         let desks = open_desks(alloc, plan, me, inputs, tapes)?;
         let words = PlainCells::make(alloc, plan.messages(), plan.ring())?;
         let places = message_places(alloc, plan, me)?;
         let parker = PartyParker::new(alloc)?;
-        let (boxes, readers) = ready_peers(alloc, plan, me, digest, &parker)?;
+        let (boxes, readers) = ready_peers(alloc, plan, me, digest, form, &parker)?;
         Ok(NodeReady {
             plan: Snapshot::of(plan),
             me,
             digest: *digest,
+            form,
             desks,
             words,
             boxes,
@@ -129,13 +140,14 @@ fn ready_peer(
     plan: &Plan,
     me: u32,
     digest: &[u8; 32],
+    form: FrameForm,
     parker: &PartyParker,
     peer: u32,
 ) -> Result<(Mailbox, ReaderParts), AllocError>
     requires parties { (me < plan.now.parties) × (peer < plan.now.parties) }
-    ensures { IfOk result (λ made. IsPeerReady plan.now me parker.now digest.now peer made.0 made.1) }
+    ensures { IfOk result (λ made. IsPeerReady plan.now me parker.now digest.now form peer made.0 made.1) }
 {
-    let talk = IncomingTalk::of_plan(alloc, plan, me, peer, *digest)?;
+    let talk = IncomingTalk::of_plan(alloc, plan, me, peer, *digest, form)?;
     let (inbox, writer, reader) = Inbox::make(alloc, talk.messages())?;
     let inbox = Arc::new(alloc, inbox)?;
     let theirs = Arc::try_clone(&inbox)?;
@@ -152,17 +164,18 @@ fn ready_peers(
     plan: &Plan,
     me: u32,
     digest: &[u8; 32],
+    form: FrameForm,
     parker: &PartyParker,
 ) -> Result<(Vec<Mailbox>, Vec<ReaderParts>), AllocError>
     requires { me < plan.now.parties }
-    ensures { IfOk result (λ made. ArePeersReady plan.now me parker.now digest.now (plan.now.parties - 1)
+    ensures { IfOk result (λ made. ArePeersReady plan.now me parker.now digest.now form (plan.now.parties - 1)
         made.0.items made.1.items) }
 {
     let mut boxes = Vec::new(alloc);
     let mut readers = Vec::new(alloc);
     for place in 0..plan.parties() - 1 {
         let peer = peer_at(me, place);
-        let (mailbox, reader) = ready_peer(alloc, plan, me, digest, parker, peer)?;
+        let (mailbox, reader) = ready_peer(alloc, plan, me, digest, form, parker, peer)?;
         boxes.push(mailbox)?;
         readers.push(reader)?;
     }

@@ -8,6 +8,7 @@ ghost use Rattle.node_run.specs.NodeRuns.{Runs};
 use crate::cells::NodeCells;
 use crate::done::NodeDone;
 use crate::hellos::greet;
+use crate::parking::Parking;
 use crate::readers::{Remains, close_inlets, read_peers};
 use crate::ready::NodeReady;
 use job_plan::Plan;
@@ -82,6 +83,7 @@ impl NodeReady {
         let NodeReady {
             me,
             digest,
+            form,
             desks,
             words,
             boxes,
@@ -97,6 +99,7 @@ impl NodeReady {
         let mut cells = NodeCells {
             plan,
             me,
+            form,
             outlets,
             words,
             boxes,
@@ -107,6 +110,7 @@ impl NodeReady {
             close_inlets(inlets.as_mut_slice());
             return Remains::of(cells, desks, 0, None).into_answer(inlets);
         }
+        let parking = Parking::new(parker);
         let remains = read_peers(
             rt,
             plan,
@@ -115,7 +119,7 @@ impl NodeReady {
             readers,
             cells,
             desks,
-            &parker,
+            &parking,
         );
         remains.into_answer(inlets)
     }

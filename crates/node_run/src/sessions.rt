@@ -8,8 +8,8 @@ ghost use Rattle.node_run.specs.Turns.{Turns, Awaits};
 
 use crate::cells::NodeCells;
 use crate::flushes::flush_all;
+use crate::parking::Parking;
 use job_plan::Plan;
-use link_reader::PartyParker;
 use outer_io::Outlet;
 use party_desk::{Desk, Stepped};
 use std::sync::Wait;
@@ -53,7 +53,7 @@ fn advance<'p, O: Outlet>(plan: &Plan, desk: &mut Desk, cells: &mut NodeCells<'p
 fn wait_for<'p, O: Outlet, R: Wait>(
     rt: &R,
     cells: &mut NodeCells<'p, O>,
-    parker: &PartyParker,
+    parking: &Parking,
     number: u32,
 ) -> bool
     requires { ComesFromPeer cells.old number }
@@ -67,7 +67,7 @@ fn wait_for<'p, O: Outlet, R: Wait>(
         None => {
             let gone = flush_all(cells);
             if gone {
-                parker.park(rt);
+                parking.park(rt, cells);
             }
             gone
         }
@@ -82,7 +82,7 @@ fn walk<'p, O: Outlet, R: Wait>(
     plan: &Plan,
     desk: &mut Desk,
     cells: &mut NodeCells<'p, O>,
-    parker: &PartyParker,
+    parking: &Parking,
 ) -> bool
     requires { (n : Node) × (s : ℕ) × (start : Begin) × (n.world.plan ≡ plan.now)
         × InSession n s start desk.old cells.old }
@@ -99,7 +99,7 @@ fn walk<'p, O: Outlet, R: Wait>(
         match advance(plan, desk, cells) {
             Turn::Moved => (),
             Turn::Waits(number) => {
-                if !wait_for(rt, cells, parker, number) {
+                if !wait_for(rt, cells, parking, number) {
                     return false;
                 }
             }
@@ -116,7 +116,7 @@ fn walk_all<'p, O: Outlet, R: Wait>(
     plan: &Plan,
     desks: &mut [Desk],
     cells: &mut NodeCells<'p, O>,
-    parker: &PartyParker,
+    parking: &Parking,
 ) -> bool
     requires { (n : Node) × (start : Begin) × (n.world.plan ≡ plan.now) × InOrder n 0 start desks.old cells.old }
     ensures ended { (n : Node) (start : Begin) → n.world.plan ≡ plan.now → InOrder n 0 start desks.old cells.old
@@ -125,7 +125,7 @@ fn walk_all<'p, O: Outlet, R: Wait>(
         → result ≡ false → Halted n start cells.new }
 {
     for s in 0..desks.len() {
-        if !walk(rt, plan, &mut desks[s], cells, parker) {
+        if !walk(rt, plan, &mut desks[s], cells, parking) {
             return false;
         }
     }
@@ -139,7 +139,7 @@ pub fn run_sessions<'p, O: Outlet, R: Wait>(
     plan: &Plan,
     desks: &mut [Desk],
     cells: &mut NodeCells<'p, O>,
-    parker: &PartyParker,
+    parking: &Parking,
 ) -> bool
     requires { (n : Node) × (start : Begin) × (n.world.plan ≡ plan.now) × InOrder n 0 start desks.old cells.old }
     ensures ended { (n : Node) (start : Begin) → n.world.plan ≡ plan.now → InOrder n 0 start desks.old cells.old
@@ -148,7 +148,7 @@ pub fn run_sessions<'p, O: Outlet, R: Wait>(
         → result ≡ false → Halted n start cells.new }
     ensures out { cells.new.failed ≡ None → NothingWaits cells.new }
 {
-    let ended = walk_all(rt, plan, desks, cells, parker);
+    let ended = walk_all(rt, plan, desks, cells, parking);
     if cells.failed.is_some() {
         return false;
     }

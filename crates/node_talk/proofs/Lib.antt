@@ -8,3 +8,4 @@ pub mod NoCauses
 pub mod ActPlaces
 pub mod LongestRuns
 pub mod StopPlaces
+pub mod SaidParts

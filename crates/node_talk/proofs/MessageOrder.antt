@@ -19,7 +19,7 @@ use Rattle.party_program.specs.declared.program.Instruction.TheVariants.{Post}
 use Rattle.party_program.specs.Programs.{program, at, from, to, post, opening, posts, head, tail, slot_program}
 use Rattle.program_laws.proofs.ProgramParts.{every_opening}
 use Rattle.program_laws.proofs.SameTalks.{Quiet, quiet_tail, told_stays}
-use Rattle.node_talk.specs.Talks.{Node, acts, goes, messages_between, stream, post_to, posts_to, TalkIsSaid}
+use Rattle.node_talk.specs.Talks.{framing, Node, acts, goes, messages_between, stream, post_to, posts_to, TalkIsSaid}
 use Rattle.node_talk.proofs.PassedLists.{filter_joined}
 
 pub flat_joined : {A : Type 0} (f : Instruction → List A) (n : ℕ) (g : ℕ → List Instruction) → flat_map f (joined n g) ≡ joined n (λ k. flat_map f (g k))
@@ -93,7 +93,7 @@ pub posts_are_all : (n : Node) (q : ℕ) → posts_to n q (length (acts n)) ≡ 
 posts_are_all n q = ap (λ z. flat_map (post_to n.world.plan q) z) (take_all (length (acts n)) (acts n) (omega arith)) ∙ posts_in_order n.world.plan n.me q
 
 pub talk_is_said : (n : Node) → TalkIsSaid n
-talk_is_said n q word = ap (λ z. stream n.digest n.me q word z) (posts_are_all n q)
+talk_is_said n q word = ap (λ z. stream (framing n) n.digest n.me q word z) (posts_are_all n q)
 
 -- ---- the first instructions
 

@@ -20,11 +20,11 @@ use Rattle.program_laws.proofs.RightWords.{IsBefore, IsUpTo, own_words, opens_pl
 use Rattle.outer_io.specs.Sink.{added}
 use Rattle.outer_io.specs.Links.{LinksReading}
 use Rattle.frame_code.specs.Frames.{hello}
-use Rattle.node_talk.specs.Talks.{Node, IsPeer, Stays, own_word, goes, messages_between, frames, stream, talk, expected, heard}
+use Rattle.node_talk.specs.Talks.{Node, framing, IsPeer, Stays, own_word, goes, messages_between, frames, stream, talk, expected, heard}
 use Rattle.node_talk.specs.PeerLinks.{in_from, out_to}
 use Rattle.node_talk.specs.Runs.{Results, IsDone, TalkedThrough, HearsAll, HearsWorld, GotWorld, IsOfWorld}
 use Rattle.node_talk.proofs.PassedLists.{every_unfilter, every_filtered, every_from_places}
-use Rattle.node_talk.proofs.Frames.{frames_eq, strip, same_frames, small_64, begins_with}
+use Rattle.node_talk.proofs.Frames.{frames_eq, strip, same_frames, begins_with}
 use Rattle.node_talk.proofs.ExpectedPlaces.{between_parties}
 
 -- where the party got the world's words in all slots before one, it has the word of each message that it sends up to there
@@ -103,7 +103,7 @@ module _ (n : Node) (whole : IsWhole n.world) (lp : n.me < n.world.plan.parties)
       own_right m lm (eqb-true _ _ (and_parts (nat_eq (message n.world.plan m).sender n.me) (nat_eq (message n.world.plan m).receiver q) g).0)))
 
   pub talk_right : (q : ℕ) → talk n q (own_word n got) ≡ talk n q (word n.world)
-  talk_right q = ap (λ z. hello n.me q n.digest ++ z) (frames_eq (own_word n got) (word n.world) (messages_between n.world.plan n.me q) (said_right q))
+  talk_right q = ap (λ z. hello n.me q n.digest ++ z) (frames_eq (framing n) (own_word n got) (word n.world) (messages_between n.world.plan n.me q) (said_right q))
 
   pub is_of_world : (r : Results) (before after : LinksReading) → IsDone n got r → TalkedThrough n got before after → IsOfWorld n r before after
   is_of_world r before after done talked = record {
@@ -128,7 +128,7 @@ module _ (n : Node) (whole : IsWhole n.world) where
         record {
           count = omega arith;
           small = subst (AllByRecursion (λ key. word n.world key < 2 ^ n.world.plan.bits)) (sym all) (small_words' keys);
-          begins = (x.2.0, x.2.1 ∙ ap (λ z. stream n.digest q n.me (word n.world) z ++ x.2.0) (sym all));
+          begins = (x.2.0, x.2.1 ∙ ap (λ z. stream (framing n) n.digest q n.me (word n.world) z ++ x.2.0) (sym all));
         },
       )
 
@@ -139,12 +139,10 @@ module _ (n : Node) (whole : IsWhole n.world) where
         let keys : List Key = expected n q in
         let start : List ℕ = hello q n.me n.digest in
         let b = begins_with x.0 (heard n q got) (in_from n after q).told (sym x.1 ∙ talked.heard q peer) in
-        let his : x.0 ≡ start ++ (frames got keys ++ b.0) = b.1 ∙ append_assoc start (frames got keys) b.0 in
-        let mine : x.0 ≡ start ++ (frames (word n.world) keys ++ x.2.0) = x.2.1 ∙ append_assoc start (frames (word n.world) keys) x.2.0 in
+        let his : x.0 ≡ start ++ (frames (framing n) got keys ++ b.0) = b.1 ∙ append_assoc start (frames (framing n) got keys) b.0 in
+        let mine : x.0 ≡ start ++ (frames (framing n) (word n.world) keys ++ x.2.0) = x.2.1 ∙ append_assoc start (frames (framing n) (word n.world) keys) x.2.0 in
         let few = whole.sound.bits in
-        same_frames got (word n.world) keys b.0 x.2.0
-        (every_weaker (λ key. got key < 2 ^ n.world.plan.bits) (λ key. got key < 2 ^ 64) keys (λ key small. small_64 n.world.plan.bits (got key) few small) (talked.small q peer))
-        (every_weaker (λ key. word n.world key < 2 ^ n.world.plan.bits) (λ key. word n.world key < 2 ^ 64) keys (λ key small. small_64 n.world.plan.bits (word n.world key) few small) (small_words' keys))
+        same_frames (framing n) few got (word n.world) keys b.0 x.2.0 (talked.small q peer) (small_words' keys)
         (strip start _ _ (sym his ∙ mine))
 
     from_peers : (m : ℕ) → m < length (messages n.world.plan) → (message n.world.plan m).receiver ≡ n.me → (message n.world.plan m).sender ≢ n.me → got (message n.world.plan m) ≡ word n.world (message n.world.plan m)

@@ -4,25 +4,26 @@ use Rattle.std.specs.List.{AllByRecursion}
 use Rattle.job_plan.specs.declared.key.Key.{Key}
 use Rattle.outer_io.specs.Count.{Rose}
 use Rattle.outer_io.specs.Inlet.{ahead, IsAtEnd}
-use Rattle.frame_code.specs.Frames.{hello, frame, frame_begin}
+use Rattle.frame_code.specs.declared.framing.Framing.{Framing}
+use Rattle.frame_code.specs.Frames.{hello, frame, frame_begin, frame_bytes, shown}
 use Rattle.node_talk.specs.declared.fault.NodeFault.{NodeFault}
 use Rattle.node_talk.specs.declared.fault.NodeFault.TheVariants.{Link, Closed, BadFrame, OtherJob, NoThread}
 use Rattle.outer_io.specs.Links.{LinksReading}
-use Rattle.node_talk.specs.Talks.{Node, IsPeer, stream, expected, expected_at}
+use Rattle.node_talk.specs.Talks.{Node, IsPeer, framing, stream, expected, expected_at}
 use Rattle.node_talk.specs.PeerLinks.{in_from, out_to}
-use Rattle.frame_code.specs.declared.sizes.TheConstants.{HELLO_BYTES, FRAME_BYTES}
+use Rattle.frame_code.specs.declared.sizes.TheConstants.{HELLO_BYTES}
 
--- the word of a frame of this message, if the bytes are one with a word of `bits` bits
-abbrev pub IsWordOf : List ℕ → ℕ → Key → Option ℕ → Type 0
-IsWordOf bytes bits key (Some word) = (word < 2 ^ bits) × (bytes ≡ frame key word)
-IsWordOf bytes bits key None = (word : ℕ) → word < 2 ^ bits → bytes ≢ frame key word
+-- the word of a frame of this message, if the bytes are one with a word of the ring
+abbrev pub IsWordOf : List ℕ → Framing → Key → Option ℕ → Type 0
+IsWordOf bytes f key (Some word) = (word < 2 ^ f.bits) × (bytes ≡ frame f key word)
+IsWordOf bytes f key None = (word : ℕ) → word < 2 ^ f.bits → bytes ≢ frame f key word
 
 -- from q came the hello and the first f expected frames, with words of the ring, and then these bytes
 pub record CameAfter (n : Node) (before after : LinksReading) (q f : ℕ) (bytes : List ℕ) : Type 0 where
   pub word : Key → ℕ
   pub small : AllByRecursion (λ key. word key < 2 ^ n.world.plan.bits) (take f (expected n q))
   pub told : (in_from n before q).told
-      ≡ ahead (stream n.digest q n.me word (take f (expected n q))) (ahead bytes (in_from n after q).told)
+      ≡ ahead (stream (framing n) n.digest q n.me word (take f (expected n q))) (ahead bytes (in_from n after q).told)
 
 -- `at` bytes came from q, fewer than the hello has
 pub record EndsInHello (n : Node) (before after : LinksReading) (q at : ℕ) : Type 0 where
@@ -36,8 +37,8 @@ pub record EndsInFrame (n : Node) (before after : LinksReading) (q at : ℕ) : T
   pub frame : ℕ
   pub within : frame < length (expected n q)
   pub piece : List ℕ
-  pub place : at ≡ frame_begin frame + length piece
-  pub short : length piece < FRAME_BYTES
+  pub place : at ≡ frame_begin (framing n) frame + length piece
+  pub short : length piece < frame_bytes (framing n)
   pub came : CameAfter n before after q frame piece
 
 -- `at` bytes came from q, and then the end, within the hello or the frame that is expected next
@@ -51,10 +52,10 @@ pub record ClosedAt (n : Node) (before after : LinksReading) (q at : ℕ) : Type
 pub record BadAt (n : Node) (before after : LinksReading) (q at : ℕ) (bytes : List ℕ) : Type 0 where
   pub frame : ℕ
   pub within : frame < length (expected n q)
-  pub place : at ≡ frame_begin frame
-  pub long : length bytes ≡ FRAME_BYTES
+  pub place : at ≡ frame_begin (framing n) frame
+  pub long : length bytes ≡ frame_bytes (framing n)
   pub came : CameAfter n before after q frame bytes
-  pub no_frame : IsWordOf bytes n.world.plan.bits (expected_at n q frame) None
+  pub no_frame : IsWordOf bytes (framing n) (expected_at n q frame) None
 
 -- the first bytes from q, as many as a hello has, are not the hello that is expected
 pub record OtherHello (n : Node) (before after : LinksReading) (q : ℕ) (ours theirs : List ℕ) : Type 0 where
@@ -70,7 +71,7 @@ Cause n before after refused refused' (Link q) =
     × (Rose (in_from n before q).faults (in_from n after q).faults
     ⊎ Rose (out_to n before q).faults (out_to n after q).faults)
 Cause n before after refused refused' (Closed q at) = IsPeer n q × ClosedAt n before after q at
-Cause n before after refused refused' (BadFrame q at bytes) = IsPeer n q × BadAt n before after q at bytes
+Cause n before after refused refused' (BadFrame q at bytes) = IsPeer n q × BadAt n before after q at (shown bytes)
 Cause n before after refused refused' (OtherJob q ours theirs) = IsPeer n q
     × OtherHello n before after q ours theirs
 Cause n before after refused refused' (NoThread q) = IsPeer n q × Rose refused refused'

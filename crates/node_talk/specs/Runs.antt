@@ -13,11 +13,12 @@ use Rattle.party_program.specs.declared.program.Instruction.TheVariants.{Post, T
 use Rattle.party_program.specs.Programs.{at}
 use Rattle.outer_io.specs.Count.{Rose}
 use Rattle.outer_io.specs.Inlet.{ahead}
-use Rattle.outer_io.specs.Sink.{added, AddedPrefix}
+use Rattle.outer_io.specs.Sink.{SinkReading, added, AddedPrefix}
 use Rattle.outer_io.specs.Links.{LinksReading}
+use Rattle.frame_code.specs.Frames.{hello, frame}
 use Rattle.node_talk.specs.declared.fault.NodeFault.{NodeFault}
 use Rattle.node_talk.specs.declared.fault.NodeFault.TheVariants.{NoThread}
-use Rattle.node_talk.specs.Talks.{Node, IsPeer, own_word, talk, expected, place_of, heard, acts, said, Begins, IsRun, EndsBefore}
+use Rattle.node_talk.specs.Talks.{Node, IsPeer, framing, own_word, talk, expected, place_of, heard, acts, said, Begins, IsRun, EndsBefore}
 use Rattle.node_talk.specs.PeerLinks.{in_from, out_to}
 use Rattle.party_set.specs.Parties.{party_mask}
 
@@ -113,9 +114,52 @@ pub record SaidAll (n : Node) (got : Key → ℕ) (came : ℕ → ℕ) (k : ℕ)
   pub most : (q : ℕ) → IsPeer n q → ¬ Rose (in_from n before q).faults (in_from n after q).faults
       → (bytes : List ℕ) → (in_from n before q).told ≡ Some bytes → EndsBefore n q bytes (suc (came q))
 
+-- the outlet to q took what the first k instructions say, and nothing else
+abbrev pub TookWhole : Node → (Key → ℕ) → ℕ → (ℕ → SinkReading) → (ℕ → SinkReading) → ℕ → Type 0
+TookWhole n word k before after q = (after q).told ≡ added (before q).told (said n q word k)
+
+-- the last of the first k instructions posts a message to q, whose outlet took what those before it say, and of the
+-- message's frame a first part
+abbrev pub FailedPost : Node → (Key → ℕ) → ℕ → (ℕ → SinkReading) → (ℕ → SinkReading) → ℕ → Type 0
+FailedPost n word k before after q =
+    (j : ℕ) × (m : ℕ) × (i : ℕ) × (k ≡ suc j) × (at (acts n) j ≡ Post m i) × ((message n.world.plan m).receiver ≡ q)
+    × AddedPrefix (added (before q).told (said n q word j))
+    (frame (framing n) (message n.world.plan m) (word (message n.world.plan m))) (after q).told
+
+-- what was said goes out before the instruction after the first k: none is done yet, or there is none left, or it takes
+-- the word of a message of a peer
+abbrev pub GoesOut : Node → ℕ → Type 0
+GoesOut n k =
+    (k ≡ 0)
+    ⊎ ((k ≡ length (acts n))
+    ⊎ ((m : ℕ) × (i : ℕ) × (at (acts n) k ≡ Take m i) × ((message n.world.plan m).sender ≢ n.me)))
+
+-- the send to q failed in the last of the first k instructions, or as what they say went out. Each other outlet took
+-- what they say, and nothing else
+pub record SendFailed (n : Node) (word : Key → ℕ) (k : ℕ) (before after : ℕ → SinkReading) (q : ℕ) : Type 0 where
+  pub itself : FailedPost n word k before after q ⊎ (GoesOut n k × TookWhole n word k before after q)
+  pub others : (r : ℕ) → IsPeer n r → r ≢ q → TookWhole n word k before after r
+
+-- the hello to q failed: the peers below q got theirs and nothing else, and those above it nothing
+pub record HelloFailed (n : Node) (before after : ℕ → SinkReading) (q : ℕ) : Type 0 where
+  pub below : (r : ℕ) → IsPeer n r → r < q → (after r).told ≡ added (before r).told (hello n.me r n.digest)
+  pub above : (r : ℕ) → IsPeer n r → q < r → (after r).told ≡ (before r).told
+
+-- the send to q failed after the first k instructions
+abbrev pub FailsAfter : Node → (Key → ℕ) → ℕ → (ℕ → SinkReading) → (ℕ → SinkReading) → ℕ → Type 0
+FailsAfter n word k before after q = SendFailed n word k before after q ⊎ ((k ≡ 0) × HelloFailed n before after q)
+
+-- no send failed, and each outlet took what the first k instructions say, and nothing else; or the send to one peer
+-- failed after them
+abbrev pub SaysFirst : Node → (Key → ℕ) → ℕ → (ℕ → SinkReading) → (ℕ → SinkReading) → Type 0
+SaysFirst n word k before after =
+    ((q : ℕ) → IsPeer n q → TookWhole n word k before after q × ((after q).faults ≡ (before q).faults))
+    ⊎ ((q : ℕ) × IsPeer n q × Rose (before q).faults (after q).faults × FailsAfter n word k before after q)
+
 -- So many frames came from each peer, with the words that the party got: an inlet that is told holds them. Each outlet
 -- took a first part of what the party says by its first k instructions, which take only words that came, or that the
--- party kept for itself as it computes them. Where no send failed and all readers were started, it said all that it could.
+-- party kept for itself as it computes them; and all of it, but where the send failed that ended the run. Where no send
+-- failed and all readers were started, it said all that it could.
 pub record BrokeOff (n : Node) (got : Key → ℕ) (before after : LinksReading) (fault : NodeFault) : Type 0 where
   pub came : ℕ → ℕ
   pub k : ℕ
@@ -125,6 +169,7 @@ pub record BrokeOff (n : Node) (got : Key → ℕ) (before after : LinksReading)
   pub keeps : KeepsItsWords n got k
   pub told : (q : ℕ) → IsPeer n q
       → AddedPrefix (out_to n before q).told (said n q (own_word n got) k) (out_to n after q).told
+  pub sends : SaysFirst n (own_word n got) k (out_to n before) (out_to n after)
   pub all : AllStarted fault → NoSendRose n before after → SaidAll n got came k before after
 
 -- ---- when nothing stops a run

@@ -11,6 +11,8 @@ use Rattle.share_world.specs.Locals.{local_word}
 use Rattle.party_program.specs.declared.program.Instruction.{Instruction}
 use Rattle.party_program.specs.declared.program.Instruction.TheVariants.{Post}
 use Rattle.party_program.specs.Programs.{program, to}
+use Rattle.frame_code.specs.declared.framing.FrameForm.{FrameForm}
+use Rattle.frame_code.specs.declared.framing.Framing.{Framing}
 use Rattle.frame_code.specs.Frames.{hello, frame}
 
 -- ---- between two parties
@@ -24,12 +26,12 @@ abbrev pub messages_between : Plan → ℕ → ℕ → List Key
 messages_between plan p q = filter (goes p q) (messages plan)
 
 -- the frame of each message, with its word
-abbrev pub frames : (Key → ℕ) → List Key → List ℕ
-frames word keys = flat_map (λ key. frame key (word key)) keys
+abbrev pub frames : Framing → (Key → ℕ) → List Key → List ℕ
+frames f word keys = flat_map (λ key. frame f key (word key)) keys
 
 -- what p sends to q: its hello, and then the frames of these messages
-abbrev pub stream : List ℕ → ℕ → ℕ → (Key → ℕ) → List Key → List ℕ
-stream digest p q word keys = hello p q digest ++ frames word keys
+abbrev pub stream : Framing → List ℕ → ℕ → ℕ → (Key → ℕ) → List Key → List ℕ
+stream f digest p q word keys = hello p q digest ++ frames f word keys
 
 -- the bytes begin with these
 abbrev pub Begins : List ℕ → List ℕ → Type 0
@@ -37,11 +39,16 @@ Begins bytes front = (rest : List ℕ) × (bytes ≡ front ++ rest)
 
 -- ---- a party
 
--- a party of a world, with the digest of the job
+-- a party of a world, with the digest of the job and the form of its frames
 pub record Node : Type 0 where
   pub world : World
   pub me : ℕ
   pub digest : List ℕ
+  pub form : FrameForm
+
+-- how its messages are framed
+abbrev pub framing : Node → Framing
+framing n = record { form = n.form; bits = n.world.plan.bits }
 
 -- q is another party
 abbrev pub IsPeer : Node → ℕ → Type 0
@@ -57,7 +64,7 @@ own_word n got = local_word n.world got n.me
 
 -- all that it says to q: the hello, and the frame of each of its messages to q
 abbrev pub talk : Node → ℕ → (Key → ℕ) → List ℕ
-talk n q word = stream n.digest n.me q word (messages_between n.world.plan n.me q)
+talk n q word = stream (framing n) n.digest n.me q word (messages_between n.world.plan n.me q)
 
 -- the messages that it expects of q, in order
 abbrev pub expected : Node → ℕ → List Key
@@ -74,7 +81,7 @@ place_of n m =
 
 -- all that q says to it
 abbrev pub heard : Node → ℕ → (Key → ℕ) → List ℕ
-heard n q word = stream n.digest q n.me word (expected n q)
+heard n q word = stream (framing n) n.digest q n.me word (expected n q)
 
 -- ---- by its instructions
 
@@ -93,7 +100,7 @@ posts_to n q k = flat_map (post_to n.world.plan q) (take k (acts n))
 
 -- what it says to q by its first k instructions
 abbrev pub said : Node → ℕ → (Key → ℕ) → ℕ → List ℕ
-said n q word k = stream n.digest n.me q word (posts_to n q k)
+said n q word k = stream (framing n) n.digest n.me q word (posts_to n q k)
 
 -- all instructions together say the talk
 abbrev pub TalkIsSaid : Node → Type 0
@@ -106,7 +113,7 @@ TalkIsSaid n = (q : ℕ) (word : Key → ℕ) → said n q word (length (acts n)
 pub record IsRun (n : Node) (q : ℕ) (bytes : List ℕ) (f : ℕ) (word : Key → ℕ) : Type 0 where
   pub count : f ≤ length (expected n q)
   pub small : AllByRecursion (λ key. word key < 2 ^ n.world.plan.bits) (take f (expected n q))
-  pub begins : Begins bytes (stream n.digest q n.me word (take f (expected n q)))
+  pub begins : Begins bytes (stream (framing n) n.digest q n.me word (take f (expected n q)))
 
 -- the bytes hold no run of f frames
 abbrev pub EndsBefore : Node → ℕ → List ℕ → ℕ → Type 0

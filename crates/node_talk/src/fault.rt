@@ -1,6 +1,6 @@
 //! Why a node stopped.
 
-use frame_code::{FRAME_BYTES, HELLO_BYTES};
+use frame_code::{FrameBytes, HELLO_BYTES};
 
 /// The fault that ended a node's run.
 #[derive(Clone, Copy, Debug, PartialEq, Eq)]
@@ -18,7 +18,7 @@ pub enum NodeFault {
     BadFrame {
         peer: u32,
         at: u64,
-        bytes: [u8; FRAME_BYTES],
+        bytes: FrameBytes,
     },
     /// The first bytes are not the hello that is expected.
     OtherJob {

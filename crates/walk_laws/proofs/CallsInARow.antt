@@ -7,7 +7,7 @@ use Rattle.job_walk.specs.declared.stop.Stop.{Stop}
 use Rattle.job_walk.specs.declared.stop.Stop.TheVariants.{Memory, Words, Out, Net, Peer, Files, Refused, Covering}
 use Rattle.job_walk.specs.Verdict.{Verdict, accepted, missing, refused, Then}
 use Rattle.job_walk.specs.JobOf.{Contents}
-use Rattle.mpc_top.specs.NodeTalks.{NodeAsked}
+use Rattle.job_walk.specs.NodeOf.{NodeForm}
 use Rattle.mpc_top.specs.Outside.{Outside}
 use Rattle.mpc_top.specs.Due.{Due, text, talk, DueOf, IsDue}
 use Rattle.mpc_top.specs.Outcomes.{HasCause}
@@ -109,25 +109,25 @@ both_given words next_words start middle end status next_status files verdict ne
 
 -- ---- the same words again
 
-not_both : (job : NodeAsked) (t : List ℕ) → accepted (talk job) ≡ accepted (text t) → ⊥
+not_both : (job : NodeForm) (t : List ℕ) → accepted (talk job) ≡ accepted (text t) → ⊥
 not_both job t e = cc
 
-no_refusal : (job : NodeAsked) (status : ℕ) (line : List ℕ) → accepted (talk job) ≡ refused status line → ⊥
+no_refusal : (job : NodeForm) (status : ℕ) (line : List ℕ) → accepted (talk job) ≡ refused status line → ⊥
 no_refusal job status line e = cc
 
 -- no words but those of a node are due a talk
-no_talk : (command : Option CommandForm) (files : Contents) (job : NodeAsked) → ((dir name : List ℕ) (view : Bool) → ¬ (command ≡ Some (node dir name view))) → IsDue command (Some files) (accepted (talk job)) → ⊥
+no_talk : (command : Option CommandForm) (files : Contents) (job : NodeForm) → ((dir name : List ℕ) → ¬ (command ≡ Some (node dir name))) → IsDue command (Some files) (accepted (talk job)) → ⊥
 unfolding DueOf Then
 no_talk None files job not is = no_refusal job _ _ is
 no_talk (Some (run dir workers view)) files job not is = not_both job _ is.2
 no_talk (Some (check dir)) files job not is = not_both job _ is.2
 no_talk (Some (pair dir group)) files job not is = not_both job _ is.2
-no_talk (Some (node dir name view)) files job not is = not dir name view refl
+no_talk (Some (node dir name)) files job not is = not dir name refl
 no_talk (Some (sample count)) files job not is = not_both job _ is
 no_talk (Some (audit dir)) files job not is = not_both job _ is.2
 
 -- so that nothing else is asked of the outside
-quiet_alone : (command : Option CommandForm) (files : Contents) (before after : Outside) (verdict : Verdict Due) → ((dir name : List ℕ) (view : Bool) → ¬ (command ≡ Some (node dir name view)))
+quiet_alone : (command : Option CommandForm) (files : Contents) (before after : Outside) (verdict : Verdict Due) → ((dir name : List ℕ) → ¬ (command ≡ Some (node dir name)))
     → IsDue command (Some files) verdict → IsQuiet before after verdict
 quiet_alone command files before after (accepted (talk job)) not is = absurd (no_talk command files job not is)
 quiet_alone command files before after (accepted (text due)) not is = tt
@@ -140,7 +140,7 @@ given_alike start middle end status next_status (missing name) g h = h.0 ∙ sym
 given_alike start middle end status next_status (refused n line) g h = h.0 ∙ sym g.0
 
 pub one_status : (words : List (List ℕ)) (start middle end : Outside) (status next_status : ℕ) (files : Contents)
-    → InARow words words start middle end status next_status → ((dir name : List ℕ) (view : Bool) → ¬ (command_of words ≡ Some (node dir name view))) → start.files.told ≡ Some files
+    → InARow words words start middle end status next_status → ((dir name : List ℕ) → ¬ (command_of words ≡ Some (node dir name))) → start.files.told ≡ Some files
     → ¬ AnyRose start middle → ¬ AnyRose middle end → next_status ≡ status
 one_status words start middle end status next_status files r not told none next_none =
     let g = r.call.due in

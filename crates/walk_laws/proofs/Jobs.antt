@@ -97,7 +97,7 @@ unfolding DueOf
 command_once (run dir workers view) files = then_once _ _ (job_once files dir view) (λ job. ends_once _)
 command_once (check dir) files = then_once _ _ (plan_at_once files dir None) (λ planned. ends_once _)
 command_once (pair dir group) files = then_once _ _ (pair_once files dir group) (λ job. ends_once _)
-command_once (node dir name view) files = then_once _ _ (node_once files dir name) (λ job. ends_once _)
+command_once (node dir name) files = then_once _ _ (node_once files dir name) (λ job. ends_once _)
 command_once (sample count) files = ends_once _
 command_once (audit dir) files = then_once _ _ (audit_once files dir) (λ count. ends_once _)
 
@@ -107,5 +107,5 @@ due_once (Some (sample count)) files = command_once (sample count) (λ name. Non
 due_once (Some (run dir workers view)) files = command_once (run dir workers view) files
 due_once (Some (check dir)) files = command_once (check dir) files
 due_once (Some (pair dir group)) files = command_once (pair dir group) files
-due_once (Some (node dir name view)) files = command_once (node dir name view) files
+due_once (Some (node dir name)) files = command_once (node dir name) files
 due_once (Some (audit dir)) files = command_once (audit dir) files

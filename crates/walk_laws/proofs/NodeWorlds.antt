@@ -17,6 +17,7 @@ use Rattle.job_session.specs.Sessions.{Session}
 use Rattle.job_plan.specs.Plans.{Plan, plan_of}
 use Rattle.job_plan.specs.Keeping.{keeping}
 use Rattle.job_plan.specs.Sound.{IsSound}
+use Rattle.frame_code.specs.declared.framing.FrameForm.{FrameForm}
 use Rattle.job_file.specs.Forms.{JobForm, SessionForm, job_form}
 use Rattle.job_file.specs.Faults.{job_in}
 use Rattle.party_file.specs.Table.{PartyForm}
@@ -26,7 +27,7 @@ use Rattle.job_run.specs.Parties.{world_of}
 use Rattle.job_walk.specs.Verdict.{Then, accepted}
 use Rattle.job_walk.specs.JobOf.{Contents, JobText, PartiesAfter, PartyAt, PlanAt, Planned, PlannedOf, PlanOf, SessionAt, SessionsAfter, StructureOf, bytes_of, file_at}
 use Rattle.job_walk.specs.Names as file_names
-use Rattle.job_walk.specs.NodeOf.{NodeForm, NodeAt, circuit_files, job_digest, party_of}
+use Rattle.job_walk.specs.NodeOf.{NodeForm, NodeAt, circuit_files, frames_of, job_digest, party_of}
 use Rattle.job_walk.specs.FileLogs.{all_bytes_at}
 use Rattle.job_digest.specs.Digests.{digest_of, joined_files}
 use Rattle.outer_io.specs.Links.{LinksReading}
@@ -39,7 +40,7 @@ use Rattle.network_runs.proofs.PlayedRuns.{runs_make_a_network}
 use Rattle.mpc_top.specs.NodeTalks.{offered, node_part}
 use Rattle.mpc_top.specs.Outside.{Outside}
 use Rattle.mpc_top.specs.WholeJobs.{WholeJob, whole_job, JobAt}
-use Rattle.walk_laws.specs.Nodes.{HoldSame, NodesAgree, NodesAreParts, NodesHaveTheirParts, PartsMakeAWorld, TalkTogether, TalksMakeANetwork, AreNodesOf, IsJoint, joint_world, node_in, played_by}
+use Rattle.walk_laws.specs.Nodes.{HoldSame, NodesAgree, NodesAreParts, NodesHaveTheirParts, PartsMakeAWorld, TalkTogether, TalksMakeANetwork, AreAlike, AreNodesOf, IsJoint, joint_world, node_in, played_by}
 use Rattle.walk_laws.proofs.Jobs.{party_once, sessions_once, structure_once}
 use Rattle.mpc_top.proofs.WholeWorlds.{Fitting, IsFound, accepted_is, no_form, party_fits, plan_is_sound, structure_found, was_ok, whole_world}
 use Rattle.job_laws.specs.Documents.{IsJobForm}
@@ -65,6 +66,8 @@ record IsNode (files : Contents) (dir name : List ℕ) (node : NodeForm) : Type 
         names = job.names;
         hosts = job.hosts;
         port = job.port;
+        form = frames_of job.short_frames;
+        view = job.own_views;
         me = me;
         plan = plan_of job.bits groups (keeping sessions);
         given = given;
@@ -95,6 +98,8 @@ node_read files dir name node (job, text, (me, m, (s, found, (sessions, read, (p
         names = job.names;
         hosts = job.hosts;
         port = job.port;
+        form = frames_of job.short_frames;
+        view = job.own_views;
         me = me;
         plan = plan;
         given = given;
@@ -266,6 +271,7 @@ module _ (files : Contents) (dir name : List ℕ) (node : NodeForm) (job : Whole
         inputs = inputs_are made_plan m.forms of.me there ∙ ap (λ (x : PartyForm). x.inputs) (sym given_is);
         tape = tape_is made_plan m.forms of.me there ∙ ap (λ (x : PartyForm). concat x.tapes) (sym given_is);
         digest = refl;
+        form = refl;
       }))
 
 pub nodes_have_their_parts : NodesHaveTheirParts
@@ -330,10 +336,12 @@ module _ (files files' : Contents) (dir dir' name name' : List ℕ) (job : JobFo
       ∙ ap digest_of (sym (same_bytes files files' dir dir' (file_names.job_file ∷ circuit_files job) same))
       ∙ ap (job_digest files dir) (sym its_job)
 
-  agree : (node'.plan ≡ node.plan) × (node'.digest ≡ node.digest)
+  agree : AreAlike node node'
   agree = (
     ap (λ (n : NodeForm). n.plan) of'.is ∙ same_plan ∙ ap (λ (n : NodeForm). n.plan) (sym of.is),
     ap (λ (n : NodeForm). n.digest) of'.is ∙ same_digest ∙ ap (λ (n : NodeForm). n.digest) (sym of.is),
+    ap (λ (n : NodeForm). n.form) of'.is ∙ ap (λ (j : JobForm). frames_of j.short_frames) (other_job ∙ sym its_job) ∙ ap (λ (n : NodeForm). n.form) (sym of.is),
+    ap (λ (n : NodeForm). n.view) of'.is ∙ ap (λ (j : JobForm). j.own_views) (other_job ∙ sym its_job) ∙ ap (λ (n : NodeForm). n.view) (sym of.is),
   )
 
 pub nodes_agree : NodesAgree
@@ -342,7 +350,7 @@ nodes_agree files files' dir dir' name name' job node node' text same at at' =
 
 -- ---- all nodes of a job
 
-module _ (plan : Plan) (digest : List ℕ) (nodes : ℕ → NodeForm) (are : AreNodesOf plan digest nodes) where
+module _ (plan : Plan) (digest : List ℕ) (form : FrameForm) (nodes : ℕ → NodeForm) (are : AreNodesOf plan digest form nodes) where
   part : (p : ℕ) → p < plan.parties → IsNodePart (node_part (nodes p))
   part p l = (let r = are.read p l in nodes_are_parts r.0 r.1 r.2 (nodes p) r.3)
 
@@ -364,7 +372,7 @@ module _ (plan : Plan) (digest : List ℕ) (nodes : ℕ → NodeForm) (are : Are
   sound : IsSound plan
   sound = subst IsSound (are.plans 0 are.some) (part 0 are.some).sound
 
-  joint : IsJoint plan digest nodes
+  joint : IsJoint plan digest form nodes
   joint = record {
     whole = whole_world plan forms many fitting sound;
     parts = λ p l.
@@ -375,31 +383,32 @@ module _ (plan : Plan) (digest : List ℕ) (nodes : ℕ → NodeForm) (are : Are
           inputs = ap (λ q. slice_index_or (joint_world plan nodes).inputs q []) (are.parties p l) ∙ inputs_are plan forms p there ∙ ap (λ (x : PartyForm). x.inputs) (form_is_its p l);
           tape = ap (λ q. slice_index_or (joint_world plan nodes).tapes q []) (are.parties p l) ∙ tape_is plan forms p there ∙ ap (λ (x : PartyForm). concat x.tapes) (form_is_its p l);
           digest = sym (are.digests p l);
+          form = sym (are.forms p l);
         };
   }
 
 pub parts_make_a_world : PartsMakeAWorld
-parts_make_a_world plan digest nodes are = joint plan digest nodes are
+parts_make_a_world plan digest form nodes are = joint plan digest form nodes are
 
 -- ---- their network
 
-module _ (plan : Plan) (digest : List ℕ) (nodes : ℕ → NodeForm) (before after : ℕ → Outside) (kept : ℕ → LinksReading) (answers : ℕ → Result Results NodeFault)
-    (t : TalkTogether plan digest nodes before after kept answers) where
-  of_all : IsJoint plan digest nodes
-  of_all = joint plan digest nodes t.are
+module _ (plan : Plan) (digest : List ℕ) (form : FrameForm) (nodes : ℕ → NodeForm) (before after : ℕ → Outside) (kept : ℕ → LinksReading) (answers : ℕ → Result Results NodeFault)
+    (t : TalkTogether plan digest form nodes before after kept answers) where
+  of_all : IsJoint plan digest form nodes
+  of_all = joint plan digest form nodes t.are
 
-  played : ArePlayed (played_by plan digest nodes before after kept answers)
+  played : ArePlayed (played_by plan digest form nodes before after kept answers)
   played = record {
     whole = of_all.whole;
-    digest = ap length (sym (t.are.digests 0 t.are.some)) ∙ (part plan digest nodes t.are 0 t.are.some).digest;
+    digest = ap length (sym (t.are.digests 0 t.are.some)) ∙ (part plan digest form nodes t.are 0 t.are.some).digest;
     runs = λ p l.
         let talk = t.talks p l in
         let one : talk.kept ≡ kept p = (let e : Some talk.kept ≡ Some (kept p) = sym talk.has_back ∙ t.links p l in cc) in
-        subst (λ (links : LinksReading). node_runs.Runs (record { world = joint_world plan nodes; me = p; digest = digest }) (offered (nodes p) (before p)) links (before p).spawner (after p).spawner (answers p)) one
-        (talk.run (record { world = joint_world plan nodes; me = p; digest = digest }) (of_all.parts p l));
+        subst (λ (links : LinksReading). node_runs.Runs (record { world = joint_world plan nodes; me = p; digest = digest; form = form }) (offered (nodes p) (before p)) links (before p).spawner (after p).spawner (answers p)) one
+        (talk.run (record { world = joint_world plan nodes; me = p; digest = digest; form = form }) (of_all.parts p l));
     pipes = t.pipes;
   }
 
 pub talks_make_a_network : TalksMakeANetwork
-talks_make_a_network plan digest nodes before after kept answers t =
-    runs_make_a_network (played_by plan digest nodes before after kept answers) (played plan digest nodes before after kept answers t)
+talks_make_a_network plan digest form nodes before after kept answers t =
+    runs_make_a_network (played_by plan digest form nodes before after kept answers) (played plan digest form nodes before after kept answers t)

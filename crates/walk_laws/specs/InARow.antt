@@ -1,5 +1,5 @@
 -- Two calls of the top call in a row.
-use Rattle.std.specs.Prelude.{◌≡◌, ℕ, ◌+◌, ◌≤◌, Bool, List, length, Option, None, Some}
+use Rattle.std.specs.Prelude.{◌≡◌, ℕ, ◌+◌, ◌≤◌, List, length, Option, None, Some}
 use Rattle.outer_io.specs.Sink.{SinkReading}
 use Rattle.command_words.specs.Commands.{command_of, node}
 use Rattle.job_walk.specs.Verdict.{Verdict, accepted, missing, refused}
@@ -60,7 +60,7 @@ abbrev pub HaveOneStatus : Type 0
 HaveOneStatus =
     (words : List (List ℕ)) (start middle end : Outside) (status next_status : ℕ) (files : Contents)
     → InARow words words start middle end status next_status
-    → ((dir name : List ℕ) (view : Bool) → ¬ (command_of words ≡ Some (node dir name view)))
+    → ((dir name : List ℕ) → ¬ (command_of words ≡ Some (node dir name)))
     → start.files.told ≡ Some files
     → ¬ AnyRose start middle → ¬ AnyRose middle end
     → next_status ≡ status

@@ -3,6 +3,7 @@ use Rattle.std.specs.Prelude.{◌≡◌, ◌≢◌, ℕ, ◌<◌, true, List, �
 use Rattle.std.specs.List.{AllByRecursion}
 use Rattle.list_laws.specs.Lists.{listed}
 use Rattle.job_plan.specs.Plans.{Plan}
+use Rattle.frame_code.specs.declared.framing.FrameForm.{FrameForm}
 use Rattle.share_world.specs.Worlds.{World}
 use Rattle.share_world.specs.Laws.{IsWhole}
 use Rattle.job_file.specs.Forms.{JobForm}
@@ -32,7 +33,7 @@ NodesAreParts =
 
 -- the node of this form in a world
 abbrev pub node_in : World → NodeForm → Node
-node_in w node = record { world = w; me = node.me; digest = node.digest }
+node_in w node = record { world = w; me = node.me; digest = node.digest; form = node.form }
 
 -- where a folder has the files of all parties, it is the party's part of the folder's job
 abbrev pub NodesHaveTheirParts : Type 0
@@ -47,45 +48,53 @@ NodesHaveTheirParts =
 abbrev pub HoldSame : Contents → List ℕ → Contents → List ℕ → List (List ℕ) → Type 0
 HoldSame files dir files' dir' = AllByRecursion (λ name. files (path_of dir name) ≡ files' (path_of dir' name))
 
--- folders that hold the same file of the job, and the same files of its circuits, give the same plan and digest
+-- of one plan, digest and form of frames, and each writes its own view or none does
+abbrev pub AreAlike : NodeForm → NodeForm → Type 0
+AreAlike node node' =
+    (node'.plan ≡ node.plan) × (node'.digest ≡ node.digest) × (node'.form ≡ node.form) × (node'.view ≡ node.view)
+
+-- folders that hold the same file of the job, and the same files of its circuits, give nodes that are alike
 abbrev pub NodesAgree : Type 0
 NodesAgree =
     (files files' : Contents) (dir dir' name name' : List ℕ) (job : JobForm) (node node' : NodeForm)
     → JobText true files dir (accepted job) → HoldSame files dir files' dir' (job_file ∷ circuit_files job)
     → NodeAt files dir name (accepted node) → NodeAt files' dir' name' (accepted node')
-    → (node'.plan ≡ node.plan) × (node'.digest ≡ node.digest)
+    → AreAlike node node'
 
--- each party of a plan read its own files, of a job with this plan and digest
-pub record AreNodesOf (plan : Plan) (digest : List ℕ) (nodes : ℕ → NodeForm) : Type 0 where
+-- each party of a plan read its own files, of a job with this plan, digest and form of frames
+pub record AreNodesOf (plan : Plan) (digest : List ℕ) (form : FrameForm) (nodes : ℕ → NodeForm) : Type 0 where
   pub some : 0 < plan.parties
   pub read : (p : ℕ) → p < plan.parties
       → (files : Contents) × (dir : List ℕ) × (name : List ℕ) × NodeAt files dir name (accepted (nodes p))
   pub parties : (p : ℕ) → p < plan.parties → (nodes p).me ≡ p
   pub plans : (p : ℕ) → p < plan.parties → (nodes p).plan ≡ plan
   pub digests : (p : ℕ) → p < plan.parties → (nodes p).digest ≡ digest
+  pub forms : (p : ℕ) → p < plan.parties → (nodes p).form ≡ form
 
 -- the world of what all parties give
 abbrev pub joint_world : Plan → (ℕ → NodeForm) → World
 joint_world plan nodes = world_of plan (listed plan.parties (λ p. (nodes p).given))
 
 -- their world is whole, and in it each party has its own part
-pub record IsJoint (plan : Plan) (digest : List ℕ) (nodes : ℕ → NodeForm) : Type 0 where
+pub record IsJoint (plan : Plan) (digest : List ℕ) (form : FrameForm) (nodes : ℕ → NodeForm) : Type 0 where
   pub whole : IsWhole (joint_world plan nodes)
   pub parts : (p : ℕ) → p < plan.parties
-      → IsNodeOf (node_part (nodes p)) (record { world = joint_world plan nodes; me = p; digest = digest })
+      → IsNodeOf (node_part (nodes p)) (record { world = joint_world plan nodes; me = p; digest = digest; form = form })
 
 abbrev pub PartsMakeAWorld : Type 0
 PartsMakeAWorld =
-    (plan : Plan) (digest : List ℕ) (nodes : ℕ → NodeForm) → AreNodesOf plan digest nodes → IsJoint plan digest nodes
+    (plan : Plan) (digest : List ℕ) (form : FrameForm) (nodes : ℕ → NodeForm)
+    → AreNodesOf plan digest form nodes → IsJoint plan digest form nodes
 
 -- ---- their network
 
 -- What their outsides showed before and after: the links that each net offered and has back, and what each run came to.
-abbrev pub played_by : Plan → List ℕ → (ℕ → NodeForm) → (ℕ → Outside) → (ℕ → Outside) → (ℕ → LinksReading)
-    → (ℕ → Result Results NodeFault) → Played
-played_by plan digest nodes before after kept answers = record {
+abbrev pub played_by : Plan → List ℕ → FrameForm → (ℕ → NodeForm) → (ℕ → Outside) → (ℕ → Outside)
+    → (ℕ → LinksReading) → (ℕ → Result Results NodeFault) → Played
+played_by plan digest form nodes before after kept answers = record {
   world = joint_world plan nodes;
   digest = digest;
+  form = form;
   before = λ p. offered (nodes p) (before p);
   after = kept;
   spawner = λ p. (before p).spawner;
@@ -94,18 +103,18 @@ played_by plan digest nodes before after kept answers = record {
 }
 
 -- each node of a job talked, its net has its links back, and each pipe invents nothing
-pub record TalkTogether (plan : Plan) (digest : List ℕ) (nodes : ℕ → NodeForm) (before after : ℕ → Outside)
-    (kept : ℕ → LinksReading) (answers : ℕ → Result Results NodeFault) : Type 0 where
-  pub are : AreNodesOf plan digest nodes
+pub record TalkTogether (plan : Plan) (digest : List ℕ) (form : FrameForm) (nodes : ℕ → NodeForm)
+    (before after : ℕ → Outside) (kept : ℕ → LinksReading) (answers : ℕ → Result Results NodeFault) : Type 0 where
+  pub are : AreNodesOf plan digest form nodes
   pub talks : (p : ℕ) → p < plan.parties → Talks (nodes p) (before p) (after p) (answers p)
   pub links : (p : ℕ) → p < plan.parties → (after p).net.kept ≡ Some (kept p)
   pub pipes : (p q : ℕ) → p < plan.parties → q < plan.parties → p ≢ q
-      → IsPipe (network_of (played_by plan digest nodes before after kept answers)) p q
+      → IsPipe (network_of (played_by plan digest form nodes before after kept answers)) p q
 
 -- they make a network, in which each party that ended well is right
 abbrev pub TalksMakeANetwork : Type 0
 TalksMakeANetwork =
-    (plan : Plan) (digest : List ℕ) (nodes : ℕ → NodeForm) (before after : ℕ → Outside) (kept : ℕ → LinksReading)
-    (answers : ℕ → Result Results NodeFault)
-    → TalkTogether plan digest nodes before after kept answers
-    → MakeANetwork (played_by plan digest nodes before after kept answers)
+    (plan : Plan) (digest : List ℕ) (form : FrameForm) (nodes : ℕ → NodeForm) (before after : ℕ → Outside)
+    (kept : ℕ → LinksReading) (answers : ℕ → Result Results NodeFault)
+    → TalkTogether plan digest form nodes before after kept answers
+    → MakeANetwork (played_by plan digest form nodes before after kept answers)

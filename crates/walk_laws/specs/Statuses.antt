@@ -4,10 +4,11 @@ use Rattle.outer_io.specs.Sink.{Writes}
 use Rattle.node_talk.specs.declared.fault.NodeFault.{NodeFault}
 use Rattle.command_words.specs.Commands.{CommandForm, command_of}
 use Rattle.mpc_top.specs.Texts.{usage_text}
+use Rattle.job_walk.specs.NodeOf.{NodeForm}
 use Rattle.job_walk.specs.Verdict.{accepted, refused}
 use Rattle.mpc_top.specs.Outside.{Outside}
 use Rattle.mpc_top.specs.Due.{talk, Suits, IsDue}
-use Rattle.mpc_top.specs.NodeTalks.{NodeAsked, Talks, MeetsNobody}
+use Rattle.mpc_top.specs.NodeTalks.{Talks, MeetsNobody}
 use Rattle.mpc_top.specs.Command.{AnyRose, Answers}
 
 -- no count of faults changed
@@ -19,10 +20,10 @@ pub record SameCounts (before after : Outside) : Type 0 where
 -- a talk is due, and it ended with a fault, or the net gave no links for it
 abbrev pub FailsToTalk : Option CommandForm → Outside → Outside → Type 0
 FailsToTalk command before after =
-    (asked : NodeAsked)
-    × IsDue command before.files.told (accepted (talk asked))
-    × Suits command (accepted (talk asked))
-    × (((fault : NodeFault) × Talks asked.job before after (Err fault)) ⊎ MeetsNobody asked.job before after)
+    (job : NodeForm)
+    × IsDue command before.files.told (accepted (talk job))
+    × Suits command (accepted (talk job))
+    × (((fault : NodeFault) × Talks job before after (Err fault)) ⊎ MeetsNobody job before after)
 
 pub record StatusSays (words : List (List ℕ)) (before after : Outside) (status : ℕ) : Type 0 where
   pub one_of : Contains (0 ∷ 2 ∷ 3 ∷ 4 ∷ 5 ∷ 6 ∷ []) status

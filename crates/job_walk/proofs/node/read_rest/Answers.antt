@@ -3,7 +3,7 @@ use Rattle.job_digest.specs.Digests.{HasFiles}
 use Rattle.job_file.specs.Jobs.{job_view}
 use Rattle.party_file.specs.Forms.{form_of}
 use Rattle.job_walk.specs.FileLogs.{Logs}
-use Rattle.job_walk.specs.NodeOf.{NodeAt, circuit_files}
+use Rattle.job_walk.specs.NodeOf.{NodeAt, circuit_files, frames_of}
 use Rattle.job_walk.specs.Seen.{node_with}
 use Rattle.job_walk.proofs.Logs.{digest_known, node_known}
 use Rattle.job_walk.proofs.Steps.{reads_exit, reads_then, reads_walk, reads_known}
@@ -61,6 +61,8 @@ returns-clause-reads g c = λ before start none logs read.
       names = job.names;
       hosts = job.hosts;
       port = job.port;
+      form = frames_of job.short_frames;
+      view = job.own_views;
       me = c.in_ok-me.me;
       plan = c.in_ok-plan.plan;
       given = form_of c.in_ok-given.given;

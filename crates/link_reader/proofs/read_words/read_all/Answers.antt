@@ -2,7 +2,7 @@ use Rattle.std.proofs.Common.{◌≡◌, ◌<◌, ◌+◌, [], ◌∷◌, ◌++�
 use Rattle.frame_code.specs.Frames.{frame}
 use Rattle.inbox_board.specs.Rule.{newcomer, pushes}
 use Rattle.inbox_board.proofs.PushedWords.{pushed_pens, pushed_ended, pushed_length, pushed_more}
-use Rattle.link_reader.specs.Expected.{key_at}
+use Rattle.link_reader.specs.Expected.{framing_of, key_at}
 use Rattle.link_reader.specs.Heard.{Gave}
 use Rattle.link_reader.specs.Wakers.{gives}
 use Rattle.link_reader.proofs.Tokens.{gives_none, gives_more}
@@ -30,8 +30,8 @@ loop-place-preserved g c =
     let e = c.in-Ok-hear.ensures.hears in
     let keys : length c.talk.inside.keys.items ≡ length c.args.talk.now.keys = ap (λ t. length t.keys) c.talk.view_is in
     let few : length h.0 < length c.args.talk.now.keys = omega (arith, h.1, keys, c.loop-place-test.true, c.len-place-end.ensures) in
-    let gave : Gave (frame (key_at c.args.talk.now (length h.0)) c.in-Ok-hear.word) (g.I.Inlet.reading c.loop-place.inlet) (g.I.Inlet.reading c.hear.new.inlet) =
-    subst (λ z. Gave (frame (key_at c.args.talk.now z) c.in-Ok-hear.word) (g.I.Inlet.reading c.loop-place.inlet) (g.I.Inlet.reading c.hear.new.inlet)) (sym h.1) e.1 in
+    let gave : Gave (frame (framing_of c.args.talk.now) (key_at c.args.talk.now (length h.0)) c.in-Ok-hear.word) (g.I.Inlet.reading c.loop-place.inlet) (g.I.Inlet.reading c.hear.new.inlet) =
+    subst (λ z. Gave (frame (framing_of c.args.talk.now) (key_at c.args.talk.now z) c.in-Ok-hear.word) (g.I.Inlet.reading c.loop-place.inlet) (g.I.Inlet.reading c.hear.new.inlet)) (sym h.1) e.1 in
     record {
       seat = c.push.ensures.seat ∙ sym c.requires.seat;
       read = (

@@ -3,4 +3,4 @@ use Rattle.node_run.proofs.ready.ready_peers.Given as goal
 
 -- the first peers are ready
 abbrev pub invariant-loop-place : goal.invariant-loop-place
-invariant-loop-place l = ArePeersReady l.plan l.me l.parker l.digest l.place l.boxes.items l.readers.items
+invariant-loop-place l = ArePeersReady l.plan l.me l.parker l.digest l.form l.place l.boxes.items l.readers.items

@@ -1,4 +1,4 @@
-use Rattle.std.proofs.Common.{◌≡◌, true, ap, sym, ◌∙◌, subst, Some}
+use Rattle.std.proofs.Common.{◌≡◌, true, ap, sym, ◌∙◌, subst, inr, Some}
 use Rattle.job_plan.specs.Numbers.{message}
 use Rattle.node_run.specs.Mail.{Mail, Looked, LookedAtMark, box_of}
 use Rattle.node_run.proofs.CellChanges.{peer_kept, never_comes, fault_noted}
@@ -16,6 +16,7 @@ pub returns-else-gone-clause-halted : goal.returns-else-gone-clause-halted
 returns-else-gone-clause-halted g c = λ n s start desk h next no.
     let i = waits_for n s start desk c.args.cells.now h c.mark.new.self c.mark.ensures.rest c.mark.ensures.ids in
     (c.flush_all-gone.ensures.failed c.if-gone.false).halted n _ start i.going
+    (inr (inr (c.args.number, next.0, next.1, λ e. c.requires.sender (ap (λ z. (message z c.args.number).sender) h.going.own.plan ∙ e ∙ sym h.going.own.me))))
 
 pub returns-in-Some-false-clause-on : goal.returns-in-Some-false-clause-on
 returns-in-Some-false-clause-on g c = λ n s start desk h yes. waits_for n s start desk c.args.cells.now h c.mark.new.self c.mark.ensures.rest c.mark.ensures.ids

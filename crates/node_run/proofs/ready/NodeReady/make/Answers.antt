@@ -11,7 +11,7 @@ use Rattle.node_run.proofs.ready.NodeReady.make.Goals as goal
 pub returns : goal.returns
 returns c =
     let given = given_words c.args.inputs.now c.args.tapes.items in
-    ap₂ (λ (plan : Plan) (given : PartyForm). record { plan = plan; me = c.args.me; given = given; digest = c.args.digest.now }) c.of.ensures
+    ap₂ (λ (plan : Plan) (given : PartyForm). record { plan = plan; me = c.args.me; given = given; digest = c.args.digest.now; form = c.args.form }) c.of.ensures
     (opened_given c.args.plan.now c.args.me given c.in_ok-desks.desks.items c.requires.fits.sessions c.requires.fits.tapes c.in_ok-desks.ensures)
 
 pub invariant_of-result : goal.invariant_of-result
@@ -21,6 +21,7 @@ invariant_of-result c =
       me = c.args.me;
       given = given_words c.args.inputs.now c.args.tapes.items;
       digest = c.args.digest.now;
+      form = c.args.form;
     } in
     let kept : Kept = record {
       desks = c.in_ok-desks.desks.items;
