@@ -7,7 +7,6 @@ ghost use Rattle.job_plan.specs.Plans.{structure};
 ghost use Rattle.job_run.specs.Parties.{AllFit, world_of};
 ghost use Rattle.pair_run.specs.Pairs.{IsPair};
 ghost use Rattle.command_words.specs.Commands.{pair};
-ghost use Rattle.tape_map.specs.MapFaults.{HasRecipientBelow};
 ghost use Rattle.tape_map.specs.declared.fault.MapFault.TheVariants as map;
 ghost use Rattle.refusal_text.specs.Lines.{pair_line};
 ghost use Rattle.job_walk.specs.Verdict.{Ends, refused};
@@ -133,7 +132,6 @@ fn hidden_pair(
 
 // The stop of a fault of the change of tapes.
 fn hiding_stop(alloc: Global, names: &Names, fault: MapFault) -> Stop
-    requires { HasRecipientBelow (length names.now) fault }
     ensures memory { fault ≡ map.Memory → result ≡ Stop.Memory }
     ensures line { StopsBy {A = PairedJob} (Ends (refused 3 (pair_line names.now fault))) result }
 {

@@ -1,11 +1,10 @@
-use Rattle.std.proofs.Common.{◌≡◌, ℕ, List, None, Some, length, map, sym, ap, subst, inl, inr}
+use Rattle.std.proofs.Common.{◌≡◌, ℕ, List, None, Some, map, sym, ap, subst, inl, inr}
 use Rattle.std.specs.Prelude.{Option}
 use Rattle.party_file.specs.Forms.{form_of}
 use Rattle.job_run.specs.Parties.{world_of}
-use Rattle.tape_map.specs.MapFaults.{map_fault, HasRecipientBelow}
+use Rattle.tape_map.specs.MapFaults.{map_fault}
 use Rattle.tape_map.specs.declared.fault.MapFault.{MapFault}
 use Rattle.tape_map.proofs.NoFaults.{no_fault}
-use Rattle.tape_map.proofs.Recipients.{recipient_below}
 use Rattle.refusal_text.specs.Lines.{pair_line}
 use Rattle.job_walk.specs.Verdict.{Verdict, Ends, unless}
 use Rattle.mpc_top.specs.WholeJobs.{PairedJob, WholeJob, mask_of, hidden_of, paired_job, whole_job}
@@ -19,14 +18,6 @@ decides : (job : WholeJob) (other : List (List (List ℕ))) (mask : ℕ) (fault 
     → hidden_of job other ≡ unless fault (pair_line job.names) (paired_job job other)
 decides job other mask fault same is =
     ap (λ o. unless o (pair_line job.names) (paired_job job other)) (subst (λ k. map_fault job.world other k ≡ fault) (sym same) is)
-
-pub hiding_stop-requires : goal.hiding_stop-requires
-hiding_stop-requires c =
-    let w = world_of c.args.planned.now.plan (map form_of c.args.parties.items) in
-    elim c.in-Err.ensures.fault [
-      | inl memory ↦ subst (HasRecipientBelow (length c.args.planned.now.names)) (sym memory) tt
-      | inr is ↦ subst (λ n. HasRecipientBelow n c.in-Err.fault) (sym c.requires.names) (recipient_below w c.args.other.now c.args.group.mask c.in-Err.fault is)
-    ]
 
 pub returns-in-Ok-clause-walks : goal.returns-in-Ok-clause-walks
 returns-in-Ok-clause-walks c =
