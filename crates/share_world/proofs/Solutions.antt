@@ -79,11 +79,11 @@ giver_is p (Given q) e = ap (λ n. Given n) (eqb-true q p e)
 giver_is p (Earlier r c at) e = absurd (both_ways false refl e)
 
 -- the wires of the sessions before s have their summands
-abbrev Earlier : World → (ℕ → ℕ → ℕ → ℕ) → ℕ → Type 0
-Earlier w sh s = (r v i : ℕ) → r < s → i < length w.plan.groups → sh r v i ≡ end_summands w r v i
+abbrev EarlierSolved : World → (ℕ → ℕ → ℕ → ℕ) → ℕ → Type 0
+EarlierSolved w sh s = (r v i : ℕ) → r < s → i < length w.plan.groups → sh r v i ≡ end_summands w r v i
 
 module _ (w : World) (s : ℕ) (c : GatesInOrder (session w.plan s)) (carries : CarriesEarlier w.plan) (sh : ℕ → ℕ → ℕ → ℕ) (dl : ℕ → ℕ → Slot → ℕ → ℕ)
-    (h : SummandsSolve w s sh dl) (before : Earlier w sh s) where
+    (h : SummandsSolve w s sh dl) (before : EarlierSolved w sh s) where
   abbrev x : Session
   x = session w.plan s
 
@@ -190,7 +190,7 @@ module _ (w : World) (s : ℕ) (c : GatesInOrder (session w.plan s)) (carries : 
 
 -- session by session
 module _ (w : World) (order : IsOrdered w.plan) (sh : ℕ → ℕ → ℕ → ℕ) (dl : ℕ → ℕ → Slot → ℕ → ℕ) (solve : AllSolve w sh dl) where
-  earlier_are : (n : ℕ) → n ≤ length w.plan.sessions → Earlier w sh n
+  earlier_are : (n : ℕ) → n ≤ length w.plan.sessions → EarlierSolved w sh n
   earlier_are zero le r v i lr li = absurd (omega (arith, lr))
   earlier_are (suc n) le r v i lr li = elim (cases_eq r n) [
     | inl e ↦ subst (λ z. sh z v i ≡ end_summands w z v i) (sym e) (wires_are w n (order.gates n (omega (arith, le))) order.carried sh dl (solve n (omega (arith, le))) (earlier_are n (omega (arith, le))) v i li)

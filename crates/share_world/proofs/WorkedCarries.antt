@@ -18,7 +18,7 @@ use Rattle.job_plan.specs.InputWords.{AreInputs, given}
 use Rattle.job_plan.specs.Tallies.{tape_length}
 use Rattle.share_world.specs.Laws.{AreTapes}
 use Rattle.share_world.specs.CarriedProduct.{kept_session, carrying_session, carried_plan, carried_world, CarriedPlain, CarriedWhole, CarriedWords}
-use Rattle.share_world.proofs.Earliers.{carrier_there}
+use Rattle.share_world.proofs.CarriedWires.{carrier_there}
 use Rattle.share_world.proofs.WorkedProduct.{product_of, sound_product, small_party, small_lists, no_cover}
 
 pub carried_plain : CarriedPlain

@@ -239,10 +239,10 @@ module _ (w : World) (other : List (List (List ℕ))) (group : ℕ) (h : CanMove
       (ap (given_by p) from ∙ eq-eqb p p refl) ((λ member. h.inputs s v lv (ap (member_gives group) from ∙ member)), (λ stranger. refl))
 
   -- the wires of the sessions before s end with the summands that they had, but for the hidden one
-  abbrev Earlier : ℕ → Type 0
-  Earlier s = (r v i : ℕ) → r < s → i < m → i ≢ g → end_summands second r v i ≡ end_summands w r v i
+  abbrev EarlierAlike : ℕ → Type 0
+  EarlierAlike s = (r v i : ℕ) → r < s → i < m → i ≢ g → end_summands second r v i ≡ end_summands w r v i
 
-  source_alike : (s v i : ℕ) (from : Source) → Earlier s → s < length w.plan.sessions → v < length (owners (session w.plan s)) → source (session w.plan s) v ≡ from
+  source_alike : (s v i : ℕ) (from : Source) → EarlierAlike s → s < length w.plan.sessions → v < length (owners (session w.plan s)) → source (session w.plan s) v ≡ from
       → i < m → i ≢ g → source_summands second (summands_before second s) s v from i ≡ source_summands w (summands_before w s) s v from i
   source_alike s v i (Given p) before ls lv from li ne = input_alike s v p i ls lv from li (inl ne)
   source_alike s v i (Earlier r c at) before ls lv from li ne =
@@ -251,7 +251,7 @@ module _ (w : World) (other : List (List (List ℕ))) (group : ℕ) (h : CanMove
       ap (λ (f : ℕ → ℕ → ℕ). f wire i) (ended_summands second s r less) ∙ before r wire i less li ne
       ∙ ap (λ (f : ℕ → ℕ → ℕ). f wire i) (sym (ended_summands w s r less))
 
-  starts_alike : (s v i : ℕ) → Earlier s → s < length w.plan.sessions → i < m → i ≢ g
+  starts_alike : (s v i : ℕ) → EarlierAlike s → s < length w.plan.sessions → i < m → i ≢ g
       → first_summands second (summands_before second s) s v i ≡ first_summands w (summands_before w s) s v i
   starts_alike s v i before ls li ne =
       let own = owners (session w.plan s) in
@@ -366,14 +366,14 @@ module _ (w : World) (other : List (List (List ℕ))) (group : ℕ) (h : CanMove
             ∙ sym (ap (λ (f : ℕ → ℕ). f i) (cond-false x.prepared _ _ no'))
       ]
 
-  session_alike : (s : ℕ) → Earlier s → s < length w.plan.sessions → (t : ℕ) → Others s t
+  session_alike : (s : ℕ) → EarlierAlike s → s < length w.plan.sessions → (t : ℕ) → Others s t
   session_alike s before ls t v i li ne =
       runs_agree (run_of w s) (first_summands second (summands_before second s) s) (run_of second s).product (λ i. i ≢ g)
       (λ v i li ne. starts_alike s v i before ls li ne)
       (λ t others product i li ne. product_alike s t i others ls product li ne)
       t v i li ne
 
-  earlier_alike : (n : ℕ) → n ≤ length w.plan.sessions → Earlier n
+  earlier_alike : (n : ℕ) → n ≤ length w.plan.sessions → EarlierAlike n
   earlier_alike zero le r v i l li ne = absurd (omega (arith, l))
   earlier_alike (suc n) le r v i l li ne = elim (cases_eq r n) [
     | inl e ↦ subst (λ z. end_summands second z v i ≡ end_summands w z v i) (sym e)
