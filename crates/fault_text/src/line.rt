@@ -53,7 +53,8 @@ fn gather_closed<G: Gather>(out: &mut G, names: &Names, peer: u32, at: u64)
 
 #[tactic(auto, using(outer_io::proofs::GatheredTexts::adds_then))]
 fn gather_frame<G: Gather>(out: &mut G, names: &Names, peer: u32, at: u64, bytes: &FrameBytes)
-    ensures { Adds (frame_line (name_at names.now peer) at (shown bytes.now)) (G.gathered out.old) (G.gathered out.new) }
+    ensures { Adds (frame_line (name_at names.now peer) at (shown bytes.now))
+        (G.gathered out.old) (G.gathered out.new) }
 {
     gather_head(out, "frame", names, peer);
     out.push(b" at=");

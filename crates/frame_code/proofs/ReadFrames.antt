@@ -174,7 +174,7 @@ all_shown n bytes long many = take_all n bytes (omega (arith, long, many))
 pub small_64 : (bits word : ℕ) → bits ≤ 64 → word < 2 ^ bits → word < 2 ^ 64
 small_64 bits word few small = let more : 2 ^ bits ≤ 2 ^ 64 = pow_mono {i = bits} {j = 64} (omega arith) in omega arith
 
--- the word at the begin of these bytes
+-- the word that these bytes begin with
 abbrev word_as : FrameForm → ℕ → List ℕ → ℕ
 word_as Named bits xs = named_word xs
 word_as Short bits xs = big_number (word_bytes bits) xs

@@ -54,7 +54,8 @@ pub record GaveOtherHello (talk : TalkModel) (bytes : List ℕ) (before after : 
 abbrev pub NoFrame : TalkModel → ℕ → InletReading → InletReading → NodeFault → Type 0
 NoFrame talk place before after (Link peer) = (peer ≡ talk.peer) × Rose before.faults after.faults
 NoFrame talk place before after (Closed peer at) =
-    (peer ≡ talk.peer) × EndedWithin (frame_bytes (framing_of talk)) (frame_begin (framing_of talk) place) at before after
+    (peer ≡ talk.peer)
+    × EndedWithin (frame_bytes (framing_of talk)) (frame_begin (framing_of talk) place) at before after
 NoFrame talk place before after (BadFrame peer at bytes) =
     (peer ≡ talk.peer) × (at ≡ frame_begin (framing_of talk) place) × GaveNoFrame talk place (shown bytes) before after
 NoFrame talk place before after (OtherJob peer ours theirs) = ⊥
@@ -71,7 +72,8 @@ NoHello talk before after (NoThread peer) = ⊥
 
 -- the frame at this place came with a word of the ring, or why it didn't
 abbrev pub Hears : TalkModel → ℕ → InletReading → InletReading → Result ℕ NodeFault → Type 0
-Hears talk place before after (Ok word) = (word < 2 ^ talk.bits) × Gave (frame (framing_of talk) (key_at talk place) word) before after
+Hears talk place before after (Ok word) =
+    (word < 2 ^ talk.bits) × Gave (frame (framing_of talk) (key_at talk place) word) before after
 Hears talk place before after (Err fault) = NoFrame talk place before after fault
 
 -- the hello came, or why it didn't

@@ -23,7 +23,14 @@ impl Model for IncomingTalk {
 
     ghost Value = { TalkModel };
 
-    ghost view = { λ t. record { peer = t.peer; me = t.me; digest = t.digest; bits = t.ring; keys = t.keys.items; form = t.form } };
+    ghost view = { λ t. record {
+      peer = t.peer;
+      me = t.me;
+      digest = t.digest;
+      bits = t.ring;
+      keys = t.keys.items;
+      form = t.form;
+    } };
 
     ghost invariant = { λ t. FitsTalk (view t) };
 }
@@ -43,7 +50,14 @@ impl IncomingTalk {
         requires parties { (peer < 256) × (me < 256) }
         requires few { vec_len keys < 2 ^ 32 }
         requires fit { AllFitFrames keys.items }
-        ensures { result ≡ record { peer = peer; me = me; digest = digest; bits = ring; keys = keys.items; form = form } }
+        ensures { result ≡ record {
+          peer = peer;
+          me = me;
+          digest = digest;
+          bits = ring;
+          keys = keys.items;
+          form = form;
+        } }
     {
         let _bits = ring.bits();
         IncomingTalk {

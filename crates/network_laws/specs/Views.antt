@@ -26,18 +26,21 @@ pub record IsSeen (net : Network) (group : ℕ) : Type 0 where
   pub said : (p q : ℕ) → p < (plan_of net).parties → q < (plan_of net).parties → p ≢ q
       → has_party group p ≡ true
       → (out_to (node net p) (net.after p) q).told
-      ≡ added (out_to (node net p) (net.before p) q).told (on_wire (framing_of net) net.digest p q (view net.world group))
+      ≡ added (out_to (node net p) (net.before p) q).told
+      (on_wire (framing_of net) net.digest p q (view net.world group))
   pub heard : (p q : ℕ) → p < (plan_of net).parties → q < (plan_of net).parties → p ≢ q
       → has_party group q ≡ true
       → (in_from (node net q) (net.before q) p).told
-      ≡ ahead (on_wire (framing_of net) net.digest p q (view net.world group)) (in_from (node net q) (net.after q) p).told
+      ≡ ahead (on_wire (framing_of net) net.digest p q (view net.world group))
+      (in_from (node net q) (net.after q) p).told
 
 -- whatever broke: each outlet of a member took, and each inlet of a member held, a first part of what its group's view
 -- holds of that wire
 pub record SeesNoMore (net : Network) (group : ℕ) : Type 0 where
   pub said : (p q : ℕ) → p < (plan_of net).parties → q < (plan_of net).parties → p ≢ q
       → has_party group p ≡ true
-      → AddedPrefix (out_to (node net p) (net.before p) q).told (on_wire (framing_of net) net.digest p q (view net.world group))
+      → AddedPrefix (out_to (node net p) (net.before p) q).told
+      (on_wire (framing_of net) net.digest p q (view net.world group))
       (out_to (node net p) (net.after p) q).told
   pub held : (p q : ℕ) → p < (plan_of net).parties → q < (plan_of net).parties → p ≢ q
       → has_party group q ≡ true

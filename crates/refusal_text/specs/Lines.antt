@@ -52,7 +52,8 @@ head part entry = codes "refused " ++ (part ++ (codes " " ++ (decimal entry.numb
 
 -- the line of a fault, with these keys in front of its own
 abbrev pub refusal_line : List ℕ → List (List ℕ) → Keys → Entry → List ℕ
-refusal_line part names front entry = head part entry ++ (keys_text names front ++ (keys_text names entry.keys ++ codes "\n"))
+refusal_line part names front entry =
+    head part entry ++ (keys_text names front ++ (keys_text names entry.keys ++ codes "\n"))
 
 -- ---- each part
 
@@ -85,7 +86,8 @@ group_line f = refusal_line (codes "group") [] [] (told_group_fault f)
 
 -- more maximal tolerated groups than 64
 unfoldable pub groups_line : ℕ → List ℕ
-groups_line found = refusal_line (codes "groups") [] [] (fault 1 (codes "TooManyGroups") ((codes "found", Number found) ∷ []))
+groups_line found =
+    refusal_line (codes "groups") [] [] (fault 1 (codes "TooManyGroups") ((codes "found", Number found) ∷ []))
 
 -- two tolerated groups that together are all parties
 unfoldable pub covering_line : List (List ℕ) → ℕ → ℕ → List ℕ

@@ -1,4 +1,5 @@
-//! Calls from other code: a job from memory, a circuit in the clear and shared, and a plan whose desks two workers step.
+//! Calls from other code: a job from memory, a circuit in the clear and shared, and a plan whose desks two workers
+//! step.
 ghost use Rattle.std.specs.Prelude.{◌≡◌, ◌^◌, ◌<◌, ◌≤◌, All, IfOk, length, map};
 ghost use Rattle.job_run.specs.Parties.{AllFit};
 

@@ -1,6 +1,6 @@
-//! Calls of the program with what no peer and no file shows: a node over links in memory of which one call fails, readers that
-//! are not started, and workers that are held in their first call; and what no call of the program shows, of the functions that
-//! are for who calls the crates.
+//! Calls of the program with what no peer and no file shows: a node over links in memory of which one call fails,
+//! readers that are not started, and workers that are held in their first call; and of functions that the program
+//! doesn't call, which are for who calls the crates.
 #![tactic(auto)]
 
 #[cfg(test)]

@@ -18,8 +18,8 @@ fn two_here(alloc: Global) -> Result<Hosts, AllocError> {
     Ok(Hosts::of(texts))
 }
 
-/// What a party hears that says its number and a full stop. It listens before it asks for its links, and a second net finds its
-/// port taken.
+/// What a party hears that says its number and a full stop. It listens before it asks for its links, and a second net
+/// finds its port taken.
 fn meet<R: Sockets<Listener = TcpListener, Stream = TcpStream> + Clock>(
     rt: &R,
     alloc: Global,

@@ -1,4 +1,4 @@
-use Rattle.std.proofs.Common.{sym, ◌∙◌, ap, arith}
+use Rattle.std.proofs.Common.{◌∙◌, ap, arith}
 use Rattle.byteorder.specs.Endian.{big_number}
 use Rattle.frame_code.proofs.ReadFrames.{read_there, read_word}
 use Rattle.frame_code.proofs.short.short_word.Goals as goal
