@@ -1,5 +1,5 @@
 -- How many masks stand before the slot of a deal.
-use Rattle.std.proofs.Common.{◌≡◌, ℕ, ◌+◌, ◌-◌, ◌*◌, ◌/◌, ◌%◌, ◌<◌, ◌≤◌, Bool, true, length, refl, sym, ap, ap₂, ◌∙◌, subst, arith}
+use Rattle.std.proofs.Common.{◌≡◌, ℕ, ◌+◌, ◌-◌, ◌*◌, ◌/◌, ◌%◌, ◌<◌, ◌≤◌, Bool, true, false, length, refl, sym, ap, ap₂, ◌∙◌, subst, arith}
 use Rattle.std.proofs.lemmas.Bool.{cases_eq, cases_lt}
 use mathlib.Core.Logic.{inl, inr}
 use Rattle.list_laws.proofs.JoinedLists.{total_within}
@@ -10,13 +10,13 @@ use Rattle.job_session.specs.Sessions.Slot.{Input, At_gate, Output, Mask, Mask_p
 use Rattle.job_session.specs.SoundSessions.{Inside}
 use Rattle.job_session.specs.SlotNumbers.{prepared_before}
 use Rattle.job_session.specs.Counts.{prepared_products}
-use Rattle.job_session.proofs.SessionSlots.{slot_kinds, slots_are_numbered}
+use Rattle.job_session.proofs.SessionSlots.{slot_kinds, slots_are_numbered, turn_first, turn_product}
 use Rattle.job_plan.specs.Plans.{Plan, session, scheme, slot, slots, slot_number, deals_in, least_held, place}
 use Rattle.job_plan.specs.Numbers.{is_mask, deals, deals_before, deal_slot, deal_place, masks_before}
 use Rattle.job_plan.proofs.SlotSums.{one, prepared_are}
 use Rattle.job_plan.proofs.TallyLaws.{masks_are, words_before_are}
 use Rattle.job_plan.proofs.DealSlots.{IsCut, at_cut, rises, slot_of_deal, deals_before_slot}
-use Rattle.job_plan.proofs.MaskPlaces.{sum_of_triples, sum_to_product}
+use Rattle.job_plan.proofs.MaskPlaces.{sum_of_pairs, sum_of_triples, sum_to_product}
 
 module _ (plan : Plan) (p s : ℕ) where
   abbrev x : Session
@@ -47,20 +47,20 @@ module _ (plan : Plan) (p s : ℕ) where
     masks : masks_before plan s k ≡ 2 * (k / 3 + 1)
     dealing : deals_in plan s p z ≡ pair
 
-  third : (k : ℕ) → k < slots plan s → k % 3 ≡ 2 → k < behind → IsThird k (slot plan s k)
-  third = slot_kinds x (λ k z. k % 3 ≡ 2 → k < behind → IsThird k z) at
+  third : x.ahead ≡ false → (k : ℕ) → k < slots plan s → k % 3 ≡ 2 → k < behind → IsThird k (slot plan s k)
+  third in_turn = slot_kinds x (λ k z. k % 3 ≡ 2 → k < behind → IsThird k z) at
     where
       at : (z : Slot) → Inside x z → slot_number plan s z % 3 ≡ 2 → slot_number plan s z < behind → IsThird (slot_number plan s z) z
-      at (Mask t First) inside e l = absurd (omega (arith, e))
-      at (Mask t Second) inside e l = absurd (omega (arith, e))
+      at (Mask t First) inside e l = absurd (omega (arith, e, turn_first x in_turn t))
+      at (Mask t Second) inside e l = absurd (omega (arith, e, turn_first x in_turn t))
       at (Mask_product t) inside e l =
           let n = prepared_before x t in
           let part : (3 * n + 2) / 3 ≡ n = omega arith in
-          record {
-            deals = omega (arith, sum_to_product plan s dealt (one pair) deal_each t inside.0 inside.1, ap (λ m. m * one pair) part);
-            masks = omega (arith, sum_to_product plan s (λ z. one (is_mask z)) 2 mask_each t inside.0 inside.1, part);
+          subst (λ k. IsThird k (Mask_product t)) (sym (turn_product x in_turn t)) (record {
+            deals = omega (arith, sum_to_product plan s dealt in_turn (one pair) deal_each t inside.0 inside.1, ap (λ m. m * one pair) part);
+            masks = omega (arith, sum_to_product plan s (λ z. one (is_mask z)) in_turn 2 mask_each t inside.0 inside.1, part);
             dealing = refl;
-          }
+          })
       at (Input v) inside e l = absurd (omega (arith, l))
       at (Masked t First) inside e l = absurd (omega (arith, l))
       at (Masked t Second) inside e l = absurd (omega (arith, l))
@@ -71,8 +71,8 @@ module _ (plan : Plan) (p s : ℕ) where
   behind_within : behind ≤ slots plan s
   behind_within = omega (arith, (slots_are_numbered x).count)
 
-  deals_behind : deals_before plan p s behind ≡ prepared_products x * one pair
-  deals_behind = sum_of_triples plan s dealt (one pair) deal_each (length x.gates) (omega arith) ∙ ap (λ n. n * one pair) products_are
+  deals_behind : x.ahead ≡ false → deals_before plan p s behind ≡ prepared_products x * one pair
+  deals_behind in_turn = sum_of_triples plan s dealt in_turn (one pair) deal_each (length x.gates) (omega arith) ∙ ap (λ n. n * one pair) products_are
 
   masks_rise : (j k : ℕ) → j ≤ k → masks_before plan s j ≤ masks_before plan s k
   masks_rise j k le = elim (cases_eq j k) [
@@ -81,27 +81,47 @@ module _ (plan : Plan) (p s : ℕ) where
   ]
 
   -- a deal behind those of the prepared products has all masks before it
-  pub late : (d : ℕ) → prepared_products x * one pair ≤ d → masks_before plan s (deal_slot plan p s d) ≡ 2 * prepared_products x
-  late d le =
+  pub late : x.ahead ≡ false → (d : ℕ) → prepared_products x * one pair ≤ d → masks_before plan s (deal_slot plan p s d) ≡ 2 * prepared_products x
+  late in_turn d le =
       let c = deal_slot plan p s d in
       let cut : IsCut plan p s (slots plan s) d c = at_cut plan p s d in
       let past : behind ≤ c = elim (cases_lt c behind) [
-        | inl less ↦ absurd (omega (arith, cut.many (omega (arith, less, behind_within)), rises plan p s (c + 1) behind (omega (arith, less)), deals_behind, le))
+        | inl less ↦ absurd (omega (arith, cut.many (omega (arith, less, behind_within)), rises plan p s (c + 1) behind (omega (arith, less)), deals_behind in_turn, le))
         | inr past ↦ omega (arith, past)
       ] in
-      let masks = sum_of_triples plan s (λ z. one (is_mask z)) 2 mask_each (length x.gates) (omega arith) in
+      let masks = sum_of_triples plan s (λ z. one (is_mask z)) in_turn 2 mask_each (length x.gates) (omega arith) in
       omega (arith, masks, products_are, masks_are plan s, masks_rise behind c past, masks_rise c (slots plan s) cut.within)
 
   -- and one of a prepared product has the masks up to its own
-  pub early : (d : ℕ) → pair ≡ true → d < prepared_products x → masks_before plan s (deal_slot plan p s d) ≡ 2 * (d + 1)
-  early d e l =
+  pub early : x.ahead ≡ false → (d : ℕ) → pair ≡ true → d < prepared_products x → masks_before plan s (deal_slot plan p s d) ≡ 2 * (d + 1)
+  early in_turn d e l =
       let k = 3 * d + 2 in
       let part : k / 3 ≡ d = omega arith in
       let own : one pair ≡ 1 = ap one e in
-      let at = third k (omega (arith, l, products_are, behind_within)) (omega arith) (omega (arith, l, products_are)) in
+      let at = third in_turn k (omega (arith, l, products_are, behind_within)) (omega arith) (omega (arith, l, products_are)) in
       let before : deals_before plan p s k ≡ d = at.deals ∙ ap₂ (λ m n. m * n) part own ∙ omega arith in
       let slot_is : deal_slot plan p s d ≡ k = ap (deal_slot plan p s) (sym before) ∙ slot_of_deal plan p s k (omega (arith, l, products_are, behind_within)) (at.dealing ∙ e) in
       ap (masks_before plan s) slot_is ∙ at.masks ∙ ap (λ m. 2 * (m + 1)) part
+
+  -- where masks come ahead, each deal has all of them before it
+  no_deals : (t : ℕ) → dealt (Mask t First) + dealt (Mask t Second) ≡ 0
+  no_deals t = omega arith
+
+  two_masks : (t : ℕ) → one (is_mask (Mask t First)) + one (is_mask (Mask t Second)) ≡ 2
+  two_masks t = omega arith
+
+  pub all_ahead : x.ahead ≡ true → (d : ℕ) → masks_before plan s (deal_slot plan p s d) ≡ 2 * prepared_products x
+  all_ahead early d =
+      let n = prepared_before x (length x.gates) in
+      let c = deal_slot plan p s d in
+      let cut : IsCut plan p s (slots plan s) d c = at_cut plan p s d in
+      let none : deals_before plan p s (2 * n) ≡ 0 = sum_of_pairs plan s dealt early 0 no_deals (length x.gates) (omega arith) ∙ omega arith in
+      let past : 2 * n ≤ c = elim (cases_lt c (2 * n)) [
+        | inl less ↦ absurd (omega (arith, cut.many (omega (arith, less, behind_within)), rises plan p s (c + 1) (2 * n) (omega (arith, less)), none))
+        | inr past ↦ omega (arith, past)
+      ] in
+      let masks = sum_of_pairs plan s (λ z. one (is_mask z)) early 2 two_masks (length x.gates) (omega arith) in
+      omega (arith, masks, products_are, masks_are plan s, masks_rise (2 * n) c past, masks_rise c (slots plan s) cut.within)
 
 -- the words of a deal stand behind those of the masks and of the deals before it
 pub deal_place_is : (plan : Plan) (p s d : ℕ) → d ≤ deals plan p s

@@ -1,14 +1,16 @@
 -- Sums over the slots of a session, kind by kind.
-use Rattle.std.proofs.Common.{◌≡◌, ℕ, zero, suc, ◌+◌, ◌*◌, Bool, true, false, not, ◌&&◌, if◌then◌else◌, List, [], ◌∷◌, ◌++◌, length, refl, ap, ap₂, ◌∙◌, arith}
+use Rattle.std.proofs.Common.{◌≡◌, ℕ, zero, suc, ◌+◌, ◌*◌, Bool, true, false, not, ◌&&◌, if◌then◌else◌, List, [], ◌∷◌, ◌++◌, length, refl, sym, ap, ap₂, ◌∙◌, inl, inr, arith}
 use Rattle.std.specs.Prelude.{slice_index_or}
 use Rattle.list_laws.specs.Lists.{total, joined, listed, only_if}
-use Rattle.list_laws.proofs.Totals.{total_eq, total_zero, total_mul_left, total_count}
+use Rattle.std.proofs.lemmas.Bool.{cases_Bool}
+use Rattle.list_laws.proofs.Totals.{total_add, total_eq, total_zero, total_mul_left, total_count}
 use Rattle.circuit_model.specs.declared.gate.Gate.{Gate}
 use Rattle.circuit_model.specs.Circuits.{is_product}
 use Rattle.job_session.specs.declared.side.Side.TheVariants.{First, Second}
-use Rattle.job_session.specs.Sessions.{Session, Slot, owners, readers, gate, no_gate, is_prepared, is_direct, prepared_slots, gate_slots, slot_list, session_slot, session_slots}
+use Rattle.job_session.specs.Sessions.{Session, Slot, owners, readers, gate, no_gate, is_prepared, is_direct, mask_slots, mask_product_slots, turns_of_masks, prepared_slots, gate_slots, slot_list, session_slot, session_slots}
 use Rattle.job_session.specs.Sessions.Slot.{Input, At_gate, Output, Mask, Mask_product, Masked, Kept}
 use Rattle.job_session.specs.Counts.{products, prepared_products}
+use Rattle.job_session.proofs.SessionSlots.{in_turn, in_two}
 
 -- ---- counts as sums
 
@@ -58,6 +60,36 @@ list_is : (s : Session) → slot_list s ≡ prepared_slots s ++ (listed (length 
 unfolding slot_list
 list_is s = refl
 
+-- masks and their products, in turn or not
+turns_summed : (s : Session) (f : Slot → ℕ) → summed f (turns_of_masks s) ≡ sum_of_masks s f
+turns_summed s f =
+    summed_joined f (length s.gates) _
+    ∙ total_eq (length s.gates) _ _ (λ t l. summed_if f (is_prepared s t) _ ∙ ap (λ n. if is_prepared s t then n else 0) (omega arith))
+
+both_parts : (b : Bool) (m n : ℕ) → (if b then m else 0) + (if b then n else 0) ≡ (if b then m + n else 0)
+both_parts true m n = refl
+both_parts false m n = refl
+
+parts_summed : (s : Session) (f : Slot → ℕ) → summed f (mask_slots s ++ mask_product_slots s) ≡ sum_of_masks s f
+parts_summed s f =
+    let pairs : ℕ → ℕ = λ t. if is_prepared s t then f (Mask t First) + f (Mask t Second) else 0 in
+    let products : ℕ → ℕ = λ t. if is_prepared s t then f (Mask_product t) else 0 in
+    let masks : summed f (mask_slots s) ≡ total (length s.gates) pairs =
+    summed_joined f (length s.gates) _
+    ∙ total_eq (length s.gates) _ _ (λ t l. summed_if f (is_prepared s t) _ ∙ ap (λ n. if is_prepared s t then n else 0) (omega arith)) in
+    let others : summed f (mask_product_slots s) ≡ total (length s.gates) products =
+    summed_joined f (length s.gates) _
+    ∙ total_eq (length s.gates) _ _ (λ t l. summed_if f (is_prepared s t) _ ∙ ap (λ n. if is_prepared s t then n else 0) (omega arith)) in
+    summed_append f (mask_slots s) (mask_product_slots s) ∙ ap₂ (λ m n. m + n) masks others
+    ∙ sym (total_add (length s.gates) pairs products)
+    ∙ total_eq (length s.gates) _ _ (λ t l. both_parts (is_prepared s t) (f (Mask t First) + f (Mask t Second)) (f (Mask_product t)))
+
+summed_masks : (s : Session) (f : Slot → ℕ) → summed f (prepared_slots s) ≡ sum_of_masks s f
+summed_masks s f = elim (cases_Bool s.ahead) [
+  | inl early ↦ ap (summed f) (in_two s early) ∙ parts_summed s f
+  | inr late ↦ ap (summed f) (in_turn s late) ∙ turns_summed s f
+]
+
 -- a sum over the slots by their kinds
 pub by_kind : (s : Session) (f : Slot → ℕ) → total (session_slots s) (λ k. f (session_slot s k))
     ≡ sum_of_masks s f + total (length (owners s)) (λ v. f (Input v)) + sum_of_gates s f + total (length (readers s)) (λ o. f (Output o)) + total (length s.kept) (λ j. f (Kept j))
@@ -65,9 +97,7 @@ by_kind s f =
     let inputs = listed (length (owners s)) (λ v. Input v) in
     let outputs = listed (length (readers s)) (λ o. Output o) in
     let kept = listed (length s.kept) (λ j. Kept j) in
-    let masks : summed f (prepared_slots s) ≡ sum_of_masks s f =
-    summed_joined f (length s.gates) _
-    ∙ total_eq (length s.gates) _ _ (λ t l. summed_if f (is_prepared s t) _ ∙ ap (λ n. if is_prepared s t then n else 0) (omega arith)) in
+    let masks : summed f (prepared_slots s) ≡ sum_of_masks s f = summed_masks s f in
     let gates : summed f (gate_slots s) ≡ sum_of_gates s f =
     summed_joined f (length s.gates) _
     ∙ total_eq (length s.gates) _ _ (λ t l.

@@ -19,6 +19,7 @@ multiply_session = record {
   inputs = record { width = 1; owner = Party 0 } ∷ record { width = 1; owner = Party 1 } ∷ [];
   outputs = record { width = 1; readers = record { parties = 3; mask = 4 } } ∷ [];
   prepared = false;
+  ahead = false;
   kept = [];
 }
 

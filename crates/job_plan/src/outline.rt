@@ -135,6 +135,14 @@ impl Outline {
         self.part(s).is_prepared()
     }
 
+    /// Whether the masks of all products of session `s` come ahead, where these are prepared.
+    pub(crate) fn ahead(&self, s: u32) -> bool
+        requires { s < length self.now.sessions }
+        ensures { result ≡ (session self.now s).ahead }
+    {
+        self.part(s).is_ahead()
+    }
+
     /// Whether party `p` deals at a product.
     pub(crate) fn multiplies(&self, p: u32) -> bool
         requires { p < self.now.parties }

@@ -332,7 +332,7 @@ impl Plan {
     }
 
     // How many words of masks `p` draws in session `s` before deal `deal`: those of all masks, but that its deals at
-    // prepared products stand each behind both masks of the product.
+    // prepared products stand each behind both masks of the product where masks don't come ahead.
     fn mask_words(&self, p: u32, s: u32, deal: u32) -> u32
         requires party { p < self.now.parties }
         requires session { s < length self.now.sessions }
@@ -343,6 +343,9 @@ impl Plan {
         let products = prepared_products(&self.outline, s);
         if products == 0 {
             return 0;
+        }
+        if self.outline.ahead(s) {
+            return least_held(&self.outline, p, self.shares()) * (2 * products);
         }
         let behind = if self.multiplies(p) && deal < products {
             deal + 1
@@ -380,8 +383,8 @@ impl Plan {
         self.mask_place(p, s, k) + least_held(&self.outline, p, i)
     }
 
-    // The place on p's tape of the first word that it draws for the mask in slot k: all slots before it are the masks
-    // of products, and the products of these, three for each product.
+    // The place on p's tape of the first word that it draws for the mask in slot k: all slots before it are masks or, where
+    // masks don't come ahead, the masks of products, and the products of these, three for each product.
     fn mask_place(&self, p: u32, s: u32, k: u32) -> u32
         requires party { p < self.now.parties }
         requires session { s < length self.now.sessions }
@@ -391,6 +394,9 @@ impl Plan {
         ensures sound { IsSound self.now }
     {
         let held = least_held(&self.outline, p, self.shares());
+        if self.outline.ahead(s) {
+            return self.tape_start(p, s) + k * held;
+        }
         let each = 2 * held + self.product_words(p);
         self.tape_start(p, s) + k / 3 * each + k % 3 * held
     }

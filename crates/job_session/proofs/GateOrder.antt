@@ -13,10 +13,10 @@ use Rattle.job_session.specs.declared.side.Side.{Side}
 use Rattle.job_session.specs.declared.side.Side.TheVariants.{First, Second}
 use Rattle.job_session.specs.Sessions.{Session, Slot, owners, readers, gate, is_prepared, kept_wire, no_kept, operand, mask_wire, product_wire, output_wire, session_slot, session_slots}
 use Rattle.job_session.specs.Sessions.Slot.{Input, At_gate, Output, Mask, Mask_product, Masked, Kept}
-use Rattle.job_session.specs.SlotNumbers.{prepared_before, first_of_gate, session_slot_number}
+use Rattle.job_session.specs.SlotNumbers.{first_of_masks, mask_product_number, first_of_gate, session_slot_number}
 use Rattle.job_session.specs.KeptWires.{sets_in, reads_in, slot_sets, slot_reads, IsInOrder}
 use Rattle.job_session.specs.SoundSessions.{Inside, IsWired}
-use Rattle.job_session.proofs.SessionSlots.{gate_rises, more_before, number_within, one_more, slot_kinds, slot_there, slots_are_numbered}
+use Rattle.job_session.proofs.SessionSlots.{gate_rises, masks_before_product, number_within, product_before_inputs, slot_kinds, slot_there, slots_are_numbered}
 use Rattle.job_session.proofs.KeptRows.{one_wire}
 use Rattle.job_session.proofs.ScannedBatches.{read_named}
 
@@ -157,13 +157,16 @@ module _ (s : Session) (h : GatesInOrder s) (inputs_below : length (owners s) �
   before_gate t w (inr u) le =
       (At_gate u.0, omega (arith, u.1, le), gate_rises s u.0 t u.1, subst (λ n. list_any (nat_eq n) (sets_in s (At_gate u.0)) ≡ true) (sym u.2) (is_one (gate s u.0).output))
 
-  mask_before : (t : ℕ) (side : Side) (w n : ℕ) → t < count → is_prepared s t ≡ true → 3 * prepared_before s t + 1 < n → w ≡ mask_wire s t side → SetsBefore n w
+  mask_before : (t : ℕ) (side : Side) (w n : ℕ) → t < count → is_prepared s t ≡ true → first_of_masks s t + 1 < n → w ≡ mask_wire s t side → SetsBefore n w
   mask_before t First w n l e less same = (Mask t First, (l, e), omega (arith, less), subst (λ n. list_any (nat_eq n) (sets_in s (Mask t First)) ≡ true) (sym same) (is_one (mask_wire s t First)))
   mask_before t Second w n l e less same = (Mask t Second, (l, e), less, subst (λ n. list_any (nat_eq n) (sets_in s (Mask t Second)) ≡ true) (sym same) (is_one (mask_wire s t Second)))
 
   -- all masks stand before the gates
-  masks_first : (t u : ℕ) → t < count → is_prepared s t ≡ true → 3 * prepared_before s t + 2 < first_of_gate s u
-  masks_first t u l e = (let more = more_before s t count l in let one = one_more s t e in omega (arith, more, one))
+  products_first : (t u : ℕ) → t < count → is_prepared s t ≡ true → mask_product_number s t < first_of_gate s u
+  products_first t u l e = omega (arith, product_before_inputs s t l e)
+
+  masks_first : (t u : ℕ) → t < count → is_prepared s t ≡ true → first_of_masks s t + 1 < first_of_gate s u
+  masks_first t u l e = omega (arith, product_before_inputs s t l e, masks_before_product s t l e)
 
   masked_number : (t : ℕ) (side : Side) → first_of_gate s t ≤ session_slot_number s (Masked t side)
   masked_number t First = omega arith
@@ -173,8 +176,8 @@ module _ (s : Session) (h : GatesInOrder s) (inputs_below : length (owners s) �
   read_before (Input v) w i e = absurd (false≢true e)
   read_before (Mask t side) w i e = absurd (false≢true e)
   read_before (Mask_product t) w i e = elim (or_cases (nat_eq w (mask_wire s t First)) (nat_eq w (mask_wire s t Second) || false) e) [
-    | inl first ↦ mask_before t First w _ i.0 i.1 (omega arith) (eqb-true w (mask_wire s t First) first)
-    | inr second ↦ mask_before t Second w _ i.0 i.1 (omega arith) (one_wire (mask_wire s t Second) w second)
+    | inl first ↦ mask_before t First w _ i.0 i.1 (masks_before_product s t i.0 i.1) (eqb-true w (mask_wire s t First) first)
+    | inr second ↦ mask_before t Second w _ i.0 i.1 (masks_before_product s t i.0 i.1) (one_wire (mask_wire s t Second) w second)
   ]
   read_before (Masked t side) w i e = elim (or_cases (nat_eq w (operand (gate s t) side)) (nat_eq w (mask_wire s t side) || false) e) [
     | inl wire ↦
@@ -193,7 +196,7 @@ module _ (s : Session) (h : GatesInOrder s) (inputs_below : length (owners s) �
           | inl first ↦ mask_before t First w _ l yes' (omega (arith, all)) (eqb-true w (mask_wire s t First) first)
           | inr rest ↦ elim (or_cases (nat_eq w (mask_wire s t Second)) _ rest) [
             | inl second ↦ mask_before t Second w _ l yes' (omega (arith, all)) (eqb-true w (mask_wire s t Second) second)
-            | inr product ↦ (Mask_product t, (l, yes'), omega (arith, all), subst (λ n. list_any (nat_eq n) (sets_in s (Mask_product t)) ≡ true) (sym (one_wire (product_wire s t) w product)) (is_one (product_wire s t)))
+            | inr product ↦ (Mask_product t, (l, yes'), omega (arith, products_first t t l yes'), subst (λ n. list_any (nat_eq n) (sets_in s (Mask_product t)) ≡ true) (sym (one_wire (product_wire s t) w product)) (is_one (product_wire s t)))
           ]
         ]
     | inr no' ↦

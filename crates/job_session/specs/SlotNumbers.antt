@@ -14,15 +14,24 @@ prepared_before s t = total t (λ u. if is_prepared s u then 1 else 0)
 abbrev pub first_input : Session → ℕ
 first_input s = 3 * prepared_before s (length s.gates)
 
+-- the number of the first slot of the masks of gate t's wires: in turn with the products of masks, or ahead of them
+abbrev pub first_of_masks : Session → ℕ → ℕ
+first_of_masks s t = if s.ahead then 2 * prepared_before s t else 3 * prepared_before s t
+
+-- the number of the slot of the product of these masks
+abbrev pub mask_product_number : Session → ℕ → ℕ
+mask_product_number s t =
+    if s.ahead then 2 * prepared_before s (length s.gates) + prepared_before s t else 3 * prepared_before s t + 2
+
 -- the number of the first slot of gate t, behind the inputs, the gates before it and what is opened for those
 abbrev pub first_of_gate : Session → ℕ → ℕ
 first_of_gate s t = first_input s + length (owners s) + t + 2 * prepared_before s t
 
 -- the number of a slot
 abbrev pub session_slot_number : Session → Slot → ℕ
-session_slot_number s (Mask t First) = 3 * prepared_before s t
-session_slot_number s (Mask t Second) = 3 * prepared_before s t + 1
-session_slot_number s (Mask_product t) = 3 * prepared_before s t + 2
+session_slot_number s (Mask t First) = first_of_masks s t
+session_slot_number s (Mask t Second) = first_of_masks s t + 1
+session_slot_number s (Mask_product t) = mask_product_number s t
 session_slot_number s (Input v) = first_input s + v
 session_slot_number s (Masked t First) = first_of_gate s t
 session_slot_number s (Masked t Second) = first_of_gate s t + 1

@@ -49,6 +49,7 @@ sample_session n = record {
   inputs = record { width = 2; owner = Party 0 } ∷ record { width = 2; owner = Party 1 } ∷ [];
   outputs = record { width = 1; readers = record { parties = 3; mask = 7 } } ∷ [];
   prepared = false;
+  ahead = false;
   kept = [];
 }
 

@@ -111,8 +111,8 @@ module _ (w : World) (h : IsPlan w.plan) (got : Key → ℕ) (p s : ℕ) where
   pub own_masks_right : (k t : ℕ) → GotRight w got p s k → Inside x (Mask_product t) → slot_number w.plan s (Mask_product t) ≤ k
       → own_product (scheme w.plan) p (local_mask w got p s t First) (local_mask w got p s t Second) ≡ own_product (scheme w.plan) p (mask w s t First) (mask w s t Second)
   own_masks_right k t right inside le =
-      holder_own w.plan h p _ _ _ _ (λ i li has. mask_right k t First i right inside (omega (arith, mask_first x t First, le)) li has)
-      (λ i li has. mask_right k t Second i right inside (omega (arith, mask_first x t Second, le)) li has)
+      holder_own w.plan h p _ _ _ _ (λ i li has. mask_right k t First i right inside (omega (arith, mask_first x t First inside, le)) li has)
+      (λ i li has. mask_right k t Second i right inside (omega (arith, mask_first x t Second inside, le)) li has)
 
   mask_product_right : (k t i : ℕ) → GotRight w got p s k → Inside x (Mask_product t) → slot_number w.plan s (Mask_product t) < k → i < length w.plan.groups → is_holder w.plan p i ≡ true → local_mask_product w got p s t i ≡ mask_product w s t i
   mask_product_right k t i right inside less li has =
@@ -136,7 +136,7 @@ module _ (w : World) (h : IsPlan w.plan) (got : Key → ℕ) (p s : ℕ) where
       → masked (scheme w.plan) (summands (local_run w got p s) t (operand (gate x t) side)) (local_mask w got p s t side) i ≡ masked (scheme w.plan) (summands (run_of w s) t (operand (gate x t) side)) (mask w s t side) i
   masked_right k t side i right run inside le li has =
       ap₂ (λ a b. difference (2 ^ w.plan.bits) a b) (run (operand (gate x t) side) i li has)
-      (mask_right k t side i right inside (omega (arith, mask_first x t side, mask_product_first x t t inside, le)) li has)
+      (mask_right k t side i right inside (omega (arith, mask_first x t side inside, mask_product_first x t t inside, le)) li has)
 
   pub excess_right : (k t : ℕ) (side : Side) → GotRight w got p s k → RunRight t → Inside x (Masked t side) → slot_number w.plan s (Masked t side) < k
       → local_excess w got p s t side (summands (local_run w got p s) t (operand (gate x t) side)) ≡ sum_of (scheme w.plan) (masked (scheme w.plan) (summands (run_of w s) t (operand (gate x t) side)) (mask w s t side))
@@ -164,8 +164,8 @@ module _ (w : World) (h : IsPlan w.plan) (got : Key → ℕ) (p s : ℕ) where
       ∙ joined_same (2 ^ w.plan.bits) i
       (excess_right k t First right run inside (omega (arith, masked_first x t First inside.1, here, le)))
       (excess_right k t Second right run inside (omega (arith, masked_first x t Second inside.1, here, le)))
-      (mask_right k t First i right inside (omega (arith, mask_first x t First, before, le)) li has)
-      (mask_right k t Second i right inside (omega (arith, mask_first x t Second, before, le)) li has)
+      (mask_right k t First i right inside (omega (arith, mask_first x t First inside, before, le)) li has)
+      (mask_right k t Second i right inside (omega (arith, mask_first x t Second inside, before, le)) li has)
       (mask_product_right k t i right inside (omega (arith, before, le)) li has)
       ∙ sym (ap (λ (f : ℕ → ℕ). f i) (cond-true x.prepared _ _ yes'))
 
@@ -230,7 +230,7 @@ module _ (w : World) (carries : CarriesEarlier w.plan) (p s n : ℕ) (got later 
   mask_same : (t : ℕ) (side : Side) (i : ℕ) → Inside y (Mask t side) → local_mask w got p s t side i ≡ local_mask w later p s t side i
   mask_same t side i inside =
       ap (λ z. if nat_eq (holder_of w.plan i) p then mask w s t side i else z)
-      (same (key_at w.plan s (Mask t side) i (holder_of w.plan i) p) refl (omega (arith, mask_first y t side, mask_product_first y t n inside)))
+      (same (key_at w.plan s (Mask t side) i (holder_of w.plan i) p) refl (omega (arith, mask_first y t side inside, mask_product_first y t n inside)))
 
   mask_product_same : (t i : ℕ) → Inside y (Mask_product t) → local_mask_product w got p s t i ≡ local_mask_product w later p s t i
   mask_product_same t i inside =

@@ -9,6 +9,7 @@ use Rattle.job_session.specs.Sessions.{Session, owners, is_prepared}
 use Rattle.job_session.specs.Sessions.Slot.{Input, At_gate, Mask, Mask_product, Masked}
 use Rattle.job_session.specs.SoundSessions.{Inside}
 use Rattle.job_session.specs.SlotNumbers.{prepared_before, first_of_gate, session_slot_number}
+use Rattle.job_session.proofs.SessionSlots.{masks_before_product, product_before_inputs}
 
 module _ (x : Session) where
   abbrev one : ℕ → ℕ
@@ -27,12 +28,12 @@ module _ (x : Session) where
   ])
 
   -- masks stand before their product, and all of these before the inputs and the gates
-  pub mask_first : (t : ℕ) (side : Side) → session_slot_number x (Mask t side) < session_slot_number x (Mask_product t)
-  mask_first t First = omega arith
-  mask_first t Second = omega arith
+  pub mask_first : (t : ℕ) (side : Side) → Inside x (Mask_product t) → session_slot_number x (Mask t side) < session_slot_number x (Mask_product t)
+  mask_first t First inside = omega (arith, masks_before_product x t inside.0 inside.1)
+  mask_first t Second inside = masks_before_product x t inside.0 inside.1
 
   pub mask_product_first : (t n : ℕ) → Inside x (Mask_product t) → session_slot_number x (Mask_product t) < first_of_gate x n
-  mask_product_first t n inside = omega (arith, counted t (length x.gates) inside.0, one_is t inside.1)
+  mask_product_first t n inside = omega (arith, product_before_inputs x t inside.0 inside.1)
 
   pub input_first : (v n : ℕ) → v < length (owners x) → session_slot_number x (Input v) < first_of_gate x n
   input_first v n l = omega (arith, l)

@@ -62,6 +62,7 @@ product_of first second mask = record {
   inputs = record { width = 1; owner = first } ∷ record { width = 1; owner = second } ∷ [];
   outputs = record { width = 1; readers = record { parties = 3; mask = mask } } ∷ [];
   prepared = false;
+  ahead = false;
   kept = [];
 }
 

@@ -17,6 +17,7 @@ kept_session = record {
   inputs = record { width = 1; owner = Party 0 } ∷ record { width = 1; owner = Party 1 } ∷ [];
   outputs = record { width = 1; readers = record { parties = 3; mask = 0 } } ∷ [];
   prepared = false;
+  ahead = false;
   kept = record { session = 1; wire = 0; output = 0 } ∷ [];
 }
 
@@ -28,6 +29,7 @@ carrying_session = record {
   inputs = record { width = 1; owner = Carried 0 0 } ∷ record { width = 1; owner = Party 0 } ∷ [];
   outputs = record { width = 1; readers = record { parties = 3; mask = 4 } } ∷ [];
   prepared = false;
+  ahead = false;
   kept = [];
 }
 

@@ -18,5 +18,5 @@ unfolding slot_list
 returns c =
     let count : c.len.result ≡ length c.args.wiring.now.kept.items = omega (arith, c.len.ensures) in
     let kept : listed c.len.result (λ j. Kept j) ≡ listed (length c.args.wiring.now.kept.items) (λ j. Kept j) = ap (λ (n : ℕ). listed n (λ j. Kept j)) count in
-    five_parts _ _ _ _ _ _ _ _ _ _ _ (ap (map slot_of_kind) c.new-kinds.ensures.items) c.in_ok-push_masks.ensures c.in_ok-push_inputs.ensures c.in_ok-push_gates.ensures c.in_ok-push_outputs.ensures
+    five_parts _ _ _ _ _ _ _ _ _ _ _ (ap (map slot_of_kind) c.new-kinds.ensures.items) c.in_ok-push_prepared.ensures c.in_ok-push_inputs.ensures c.in_ok-push_gates.ensures c.in_ok-push_outputs.ensures
     (c.in_ok-push_kept.ensures ∙ ap (λ xs. map slot_of_kind c.push_outputs.new.kinds.items ++ xs) kept)

@@ -18,7 +18,7 @@ overflow_sub-others c = omega (arith, c.len.ensures, c.len-then-wiring.ensures, 
 pub returns-clause-tables : goal.returns-clause-tables
 returns-clause-tables c =
     let before = c.requires.wiring in
-    let wired = wired_with (session_in c.args.self) c.args.self.prepared c.args.kept.items before.wired c.requires.kept in
+    let wired = wired_with (session_in c.args.self) c.args.self.prepared c.args.self.ahead c.args.kept.items before.wired c.requires.kept in
     elim c.if-wiring.branch [
       | then-wiring+in_ok-push_kept w ↦
           subst (λ (v : Wiring). IsWiring (record v { kept = c.args.kept })) (sym w.wiring-is) (record {

@@ -11,6 +11,6 @@ returns-clause-tables c =
       sources = before.sources;
       read = before.read;
       products = before.products;
-      wired = wired_with (session_in c.args.self) true (session_in c.args.self).kept before.wired before.wired.kept;
+      wired = wired_with (session_in c.args.self) true c.args.ahead (session_in c.args.self).kept before.wired before.wired.kept;
       kinds = λ e. c.in_ok-kinds.ensures;
     }
