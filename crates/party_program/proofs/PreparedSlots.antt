@@ -10,7 +10,7 @@ use Rattle.secret_sharing.specs.Schemes.{has_pair}
 use Rattle.job_session.specs.declared.side.Side.TheVariants.{First, Second}
 use Rattle.job_session.specs.Sessions.{Session, Slot, gate, no_gate, is_prepared, session_slot}
 use Rattle.job_session.specs.Sessions.Slot.{At_gate, Mask, Mask_product, Masked}
-use Rattle.job_session.specs.SlotNumbers.{first_of_gate, prepared_before, session_slot_number}
+use Rattle.job_session.specs.SlotNumbers.{first_of_gate, first_of_masks, mask_product_number, prepared_before, session_slot_number}
 use Rattle.job_session.specs.SoundSessions.{Inside}
 use Rattle.job_session.proofs.SessionSlots.{number_within, slot_there}
 use Rattle.job_plan.specs.declared.pattern.Pattern.{Pattern}
@@ -26,7 +26,7 @@ use Rattle.party_program.specs.declared.half.Half.{Half}
 use Rattle.party_program.specs.declared.half.Half.TheVariants.{Head, Tail}
 use Rattle.party_program.specs.Programs.{head, tail, half_program}
 use Rattle.party_program.specs.PartySteps.{steps}
-use Rattle.party_program.specs.ProgramPlaces.{AreDealsTo, AreProductCounts, AreSessionSteps, HasInSlot, HasInThree, session_of, steps_in}
+use Rattle.party_program.specs.ProgramPlaces.{AreDealsTo, AreProductCounts, AreSessionSteps, HasInSlot, HasInThree, HasInTwo, session_of, steps_in}
 use Rattle.party_program.proofs.FollowedPatterns.{gate_pattern}
 use Rattle.party_program.proofs.ProgramPlaces.{length-half}
 
@@ -94,13 +94,15 @@ module _ (own : SessionSteps) (are : AreSessionSteps own) (sound : IsSound own.p
 
   module _ (t : ℕ) (less : t < length x.gates) where
     module _ (counts : ProductCounts) (counted : AreProductCounts own counts) (is : is_prepared x t ≡ true) where
-      -- in the slots of its masks and of their product
-      pub in_masks : (k : ℕ) → k ≡ 3 * prepared_before x t → HasInThree own k counts.mask counts.product counts.deals
+      -- in the slots of its masks, and in that of their product
+      pub in_masks : (k : ℕ) → k ≡ first_of_masks x t → HasInTwo own k counts.mask
       in_masks k here = (
         has_in_slot k (Mask t First) (less, is) here HandedOut counts.mask 0 refl counted.mask refl,
         has_in_slot (k + 1) (Mask t Second) (less, is) (ap (λ n. n + 1) here) HandedOut counts.mask 0 refl counted.mask refl,
-        has_in_slot (k + 2) (Mask_product t) (less, is) (ap (λ n. n + 2) here) Multiplied counts.product counts.deals refl counted.product counted.deals,
       )
+
+      pub in_mask_product : (k : ℕ) → k ≡ mask_product_number x t → HasInSlot own k counts.product counts.deals
+      in_mask_product k here = has_in_slot k (Mask_product t) (less, is) here Multiplied counts.product counts.deals refl counted.product counted.deals
 
       -- in those of what is opened for it, and in its own
       pub in_gate : (k : ℕ) → k ≡ first_of_gate x t → HasInThree own k counts.opening counts.join 0
@@ -110,8 +112,10 @@ module _ (own : SessionSteps) (are : AreSessionSteps own) (sound : IsSound own.p
           let two : ◌≡◌ {A = ℕ} 2 (if is_prepared x t then 2 else 0) = ap (λ b. if b then 2 else 0) (sym is) in
           let last : k + 2 ≡ first_of_gate x t + (if is_prepared x t then 2 else 0) = omega (arith, here, two) in
           let none : ◌≡◌ {A = ℕ} 0 (if (not prepared && product) && has_pair (scheme own.plan.now) own.party then 1 else 0) = ap (λ b. if b then 1 else 0) (sym (not_direct prepared product (has_pair (scheme own.plan.now) own.party) is)) in (
-            has_in_slot k (Masked t First) (less, is) here OpenedToAll counts.opening 0 refl counted.opening refl,
-            has_in_slot (k + 1) (Masked t Second) (less, is) (ap (λ n. n + 1) here) OpenedToAll counts.opening 0 refl counted.opening refl,
+            (
+              has_in_slot k (Masked t First) (less, is) here OpenedToAll counts.opening 0 refl counted.opening refl,
+              has_in_slot (k + 1) (Masked t Second) (less, is) (ap (λ n. n + 1) here) OpenedToAll counts.opening 0 refl counted.opening refl,
+            ),
             has_in_slot (k + 2) (At_gate t) less last Joined counts.join 0 (joined_pattern prepared product is) counted.join none,
           )
 
@@ -130,11 +134,10 @@ module _ (own : SessionSteps) (are : AreSessionSteps own) (sound : IsSound own.p
         not_prepared true product is = is
         not_prepared false product is = refl
 
-    -- the slots of the next gate
-    pub next_masks : (b : Bool) → is_prepared x t ≡ b → 3 * prepared_before x t + (if b then 3 else 0) ≡ 3 * prepared_before x (t + 1)
-    next_masks true is = let one = ap {B = ℕ} (λ b. if b then 1 else 0) is in let more = total_more t (λ u. if is_prepared x u then 1 else 0) in omega (arith, one, more)
-    next_masks false is = let one = ap {B = ℕ} (λ b. if b then 1 else 0) is in let more = total_more t (λ u. if is_prepared x u then 1 else 0) in omega (arith, one, more)
+    -- how many prepared products there are before the next gate, and its slots
+    pub next_prepared : (b : Bool) → is_prepared x t ≡ b → prepared_before x (t + 1) ≡ prepared_before x t + (if b then 1 else 0)
+    next_prepared b is = total_more t (λ u. if is_prepared x u then 1 else 0) ∙ ap (λ b. prepared_before x t + (if b then 1 else 0)) is
 
     pub next_gate : (b : Bool) → is_prepared x t ≡ b → first_of_gate x t + (if b then 3 else 1) ≡ first_of_gate x (t + 1)
-    next_gate true is = let one = ap {B = ℕ} (λ b. if b then 1 else 0) is in let more = total_more t (λ u. if is_prepared x u then 1 else 0) in omega (arith, one, more)
-    next_gate false is = let one = ap {B = ℕ} (λ b. if b then 1 else 0) is in let more = total_more t (λ u. if is_prepared x u then 1 else 0) in omega (arith, one, more)
+    next_gate true is = omega (arith, next_prepared true is)
+    next_gate false is = omega (arith, next_prepared false is)

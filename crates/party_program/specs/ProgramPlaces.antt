@@ -135,9 +135,13 @@ pub record HasInSlot (own : SessionSteps) (k count deals : ℕ) : Type 0 where
   pub instructions : count ≡ length (slot_program own.plan.now own.party own.session k)
   pub dealt : deals ≡ (if deals_in own.plan.now own.session own.party (slot own.plan.now own.session k) then 1 else 0)
 
--- in each of the slots k and k + 1 it has so many instructions and no deal, and in the next one so many of both
+-- in each of the slots k and k + 1 it has so many instructions and no deal
+abbrev pub HasInTwo : SessionSteps → ℕ → ℕ → Type 0
+HasInTwo own k each = HasInSlot own k each 0 × HasInSlot own (k + 1) each 0
+
+-- and in the next one so many of both
 abbrev pub HasInThree : SessionSteps → ℕ → ℕ → ℕ → ℕ → Type 0
-HasInThree own k each last deals = HasInSlot own k each 0 × HasInSlot own (k + 1) each 0 × HasInSlot own (k + 2) last deals
+HasInThree own k each last deals = HasInTwo own k each × HasInSlot own (k + 2) last deals
 
 -- how many instructions the party has in a slot of this pattern
 abbrev pub steps_in : SessionSteps → Pattern → ℕ

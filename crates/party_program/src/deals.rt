@@ -1,13 +1,13 @@
 //! How many deals stand before each slot.
-ghost use Rattle.std.specs.Prelude.{◌≡◌, ℕ, ◌+◌, ◌<◌, ◌≤◌, true, IfOk, length};
+ghost use Rattle.std.specs.Prelude.{◌≡◌, ℕ, ◌+◌, ◌*◌, ◌<◌, ◌≤◌, true, false, IfOk, length};
 ghost use Rattle.secret_sharing.specs.Schemes.{has_pair};
 ghost use Rattle.job_plan.specs.Plans as plans;
 ghost use Rattle.job_session.specs.Sessions.{owners};
-ghost use Rattle.job_session.specs.SlotNumbers.{first_input, first_of_gate};
+ghost use Rattle.job_session.specs.SlotNumbers.{first_input, first_of_gate, prepared_before};
 ghost use Rattle.job_plan.specs.Plans.{scheme, slots};
 ghost use Rattle.party_program.specs.PartySteps.{deals_in_pattern};
 ghost use Rattle.party_program.specs.ProgramPlaces.{AreDealsTo, AreSessionSteps, HasNoneBeside, instructions_before, session_of};
-ghost use Rattle.party_program.specs.ProgramPlaces.{AreProductCounts, HasInSlot, HasInThree};
+ghost use Rattle.party_program.specs.ProgramPlaces.{AreProductCounts, HasInSlot, HasInThree, HasInTwo};
 ghost use Rattle.job_plan.specs.Numbers.{deals_before};
 ghost use Rattle.list_laws.specs.Lists.{listed};
 
@@ -101,7 +101,7 @@ fn push_prepared(own: &SessionSteps<'_>, list: &mut Vec<u32>, tally: &mut Tally)
     let _ = plan.parties();
     let part = plan.part(own.session);
     let counts = count_products(own);
-    push_masks(own, counts, list, tally);
+    push_preparation(own, counts, list, tally);
     push_slots(
         own,
         part.first_input_slot(),
@@ -128,10 +128,74 @@ fn count_products(own: &SessionSteps<'_>) -> ProductCounts
 }
 
 // Adds those before the slots of masks and of their products.
+fn push_preparation(
+    own: &SessionSteps<'_>,
+    counts: ProductCounts,
+    list: &mut Vec<u32>,
+    tally: &mut Tally,
+)
+    requires steps { AreSessionSteps own.now }
+    requires counts { AreProductCounts own.now counts }
+    requires prepared { (session_of own.now).prepared ≡ true }
+    requires before { AreDealsTo own.now 0 list.old tally.old }
+    ensures { AreDealsTo own.now (first_input (session_of own.now)) list.new tally.new }
+{
+    let _ = own.plan.parties();
+    if own.plan.part(own.session).is_ahead() {
+        push_masks(own, counts, list, tally);
+        push_mask_products(own, counts, list, tally);
+    } else {
+        push_turns(own, counts, list, tally);
+    }
+}
+
+// Adds those before the slots of masks, which stand ahead of their products.
 fn push_masks(own: &SessionSteps<'_>, counts: ProductCounts, list: &mut Vec<u32>, tally: &mut Tally)
     requires steps { AreSessionSteps own.now }
     requires counts { AreProductCounts own.now counts }
     requires prepared { (session_of own.now).prepared ≡ true }
+    requires ahead { (session_of own.now).ahead ≡ true }
+    requires before { AreDealsTo own.now 0 list.old tally.old }
+    ensures { AreDealsTo own.now (2 * prepared_before (session_of own.now) (length (session_of own.now).gates))
+        list.new tally.new }
+{
+    let _ = own.plan.parties();
+    for gate in own.plan.part(own.session).gates() {
+        if gate.operation.is_product() {
+            push_two(own, counts.mask, list, tally);
+        }
+    }
+}
+
+// Adds those before the slots of the products of masks, behind all masks.
+fn push_mask_products(
+    own: &SessionSteps<'_>,
+    counts: ProductCounts,
+    list: &mut Vec<u32>,
+    tally: &mut Tally,
+)
+    requires steps { AreSessionSteps own.now }
+    requires counts { AreProductCounts own.now counts }
+    requires prepared { (session_of own.now).prepared ≡ true }
+    requires ahead { (session_of own.now).ahead ≡ true }
+    requires before { AreDealsTo own.now (2 * prepared_before (session_of own.now) (length (session_of own.now).gates))
+        list.old tally.old }
+    ensures { AreDealsTo own.now (first_input (session_of own.now)) list.new tally.new }
+{
+    let _ = own.plan.parties();
+    for gate in own.plan.part(own.session).gates() {
+        if gate.operation.is_product() {
+            push_slot(own, counts.product, counts.deals, list, tally);
+        }
+    }
+}
+
+// Adds those before the slots of masks and of their products, product by product.
+fn push_turns(own: &SessionSteps<'_>, counts: ProductCounts, list: &mut Vec<u32>, tally: &mut Tally)
+    requires steps { AreSessionSteps own.now }
+    requires counts { AreProductCounts own.now counts }
+    requires prepared { (session_of own.now).prepared ≡ true }
+    requires in_turn { (session_of own.now).ahead ≡ false }
     requires before { AreDealsTo own.now 0 list.old tally.old }
     ensures { AreDealsTo own.now (first_input (session_of own.now)) list.new tally.new }
 {
@@ -183,9 +247,20 @@ fn push_three(
     ensures { (k : ℕ) → HasInThree own.now k each last deals → AreDealsTo own.now k list.old tally.old
         → AreDealsTo own.now (k + 3) list.new tally.new }
 {
-    push_slot(own, each, 0, list, tally);
-    push_slot(own, each, 0, list, tally);
+    push_two(own, each, list, tally);
     push_slot(own, last, deals, list, tally);
+}
+
+// Adds those before two slots: in each the party has so many instructions and no deal.
+#[inline(always)]
+fn push_two(own: &SessionSteps<'_>, each: usize, list: &mut Vec<u32>, tally: &mut Tally)
+    requires steps { AreSessionSteps own.now }
+    requires next { (k : ℕ) × HasInTwo own.now k each × AreDealsTo own.now k list.old tally.old }
+    ensures { (k : ℕ) → HasInTwo own.now k each → AreDealsTo own.now k list.old tally.old
+        → AreDealsTo own.now (k + 2) list.new tally.new }
+{
+    push_slot(own, each, 0, list, tally);
+    push_slot(own, each, 0, list, tally);
 }
 
 // Adds those before one slot, in which the party has so many instructions and deals.

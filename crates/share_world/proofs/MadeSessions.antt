@@ -79,8 +79,8 @@ is_so c owned readers t v same le (inr u) =
     let sets : (get_or (take t c.gates) u.0 no_gate).output ≡ v = ap (λ (g : Gate). g.output) (get_or-take t c.gates u.0 no_gate u.1) ∙ u.2 in
     ap (λ b. nat_lt v (input_wires c) || b) (list_any_at (λ (g : Gate). g.output == v) (take t c.gates) u.0 no_gate there (eq-eqb _ v sets)) ∙ or_true (nat_lt v (input_wires c))
 
-pub made_is_circuit : (c : Netlist) (owned : List Owner) (readers : List Members) (prepared : Bool) (kept : List KeptWire) → IsCircuit c → length owned ≡ length c.inputs → GatesInOrder (made_of c owned readers prepared kept)
-made_is_circuit c owned readers prepared kept v same = record {
+pub made_is_circuit : (c : Netlist) (owned : List Owner) (readers : List Members) (prepared ahead : Bool) (kept : List KeptWire) → IsCircuit c → length owned ≡ length c.inputs → GatesInOrder (made_of c owned readers prepared ahead kept)
+made_is_circuit c owned readers prepared ahead kept v same = record {
   first = λ t l r. set_is c owned readers t (gate_of c t).first same (omega (arith, l)) (first_passes (gate_of c t).operation (is_set (input_wires c) (take t c.gates)) (gate_of c t).first (gate_of c t).second (v.fits t l).read r);
   second = λ t l r. set_is c owned readers t (gate_of c t).second same (omega (arith, l)) (second_passes (gate_of c t).operation (is_set (input_wires c) (take t c.gates)) (gate_of c t).first (gate_of c t).second (v.fits t l).read r);
   output = λ t l b. both_ways (is_set (input_wires c) (take t c.gates) (gate_of c t).output) (v.fits t l).fresh (is_so c owned readers t (gate_of c t).output same (omega (arith, l)) b);
@@ -102,7 +102,7 @@ within_same n a u = elim (cases_Bool (nat_lt u n)) [
 ]
 
 pub made_has_values : (w : World) (s : ℕ) → CarriesEarlier w.plan → MadeHasValues w s
-made_has_values w s carries c owned readers prepared kept is bits same v =
+made_has_values w s carries c owned readers prepared ahead kept is bits same v =
     let many : length (owners (session w.plan s)) ≡ input_wires c = ap (λ (q : Session). length (owners q)) is ∙ owners_long c.inputs owned same in
     let start : first_values w (values_before w s) s ≡ (λ u. if nat_lt u (input_wires c) then first_values w (plain w) s u else 0) =
     λ i. λ u. (start_is w s u carries ∙ within_same (length (owners (session w.plan s))) (source_value w (plain w) s u (source (session w.plan s) u)) u

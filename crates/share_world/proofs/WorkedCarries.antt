@@ -31,7 +31,7 @@ carried_words = refl
 -- ---- the world is whole
 
 sound_kept : IsSoundSession 3 kept_session
-sound_kept = sound_with 3 (product_of (Party 0) (Party 1) 0) false kept_session.kept
+sound_kept = sound_with 3 (product_of (Party 0) (Party 1) 0) false false kept_session.kept
     (sound_product (Party 0) (Party 1) 0 (λ p e. small_party 0 p (omega arith) e) (λ p e. small_party 1 p (omega arith) e) (omega arith))
     (record { outputs = outputs; few = omega arith })
   where

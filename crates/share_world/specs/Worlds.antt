@@ -103,12 +103,16 @@ values_after w before s = values (2 ^ w.plan.bits) (gate (session w.plan s)) (fi
 
 -- ---- all sessions, one after another
 
--- the summands with which the wires of the first n sessions end, by session and wire, and 0 for any other session
+-- what the wires of the first n sessions end with, by session, and `none` for any other session, where `ends before s` is
+-- what those of session s end with behind such earlier ones
+abbrev pub ends_before : {Ends : Type 0} → (ℕ → Ends) → ((ℕ → Ends) → ℕ → Ends) → ℕ → ℕ → Ends
+ends_before none ends zero = none
+ends_before none ends (suc n) = set_at (ends_before none ends n) n (ends (ends_before none ends n) n)
+
+-- the summands with which the wires of the first n sessions end, by session and wire
 abbrev pub summands_before : World → ℕ → ℕ → ℕ → ℕ → ℕ
-summands_before w zero = λ r v i. 0
-summands_before w (suc n) =
-    set_at (summands_before w n) n
-    (summands (run_after w (summands_before w n) n) (length (session w.plan n).gates))
+summands_before w =
+    ends_before (λ r v i. 0) (λ before s. summands (run_after w before s) (length (session w.plan s).gates))
 
 -- the gates of session s, behind all sessions before it
 abbrev pub run_of : World → ℕ → Run
@@ -118,11 +122,9 @@ run_of w s = run_after w (summands_before w s) s
 abbrev pub end_summands : World → ℕ → ℕ → ℕ → ℕ
 end_summands w s = summands (run_of w s) (length (session w.plan s).gates)
 
--- the values with which the wires of the first n sessions end, by session and wire, and 0 for any other session
+-- the values with which the wires of the first n sessions end, by session and wire
 abbrev pub values_before : World → ℕ → ℕ → ℕ → ℕ
-values_before w zero = λ r v. 0
-values_before w (suc n) =
-    set_at (values_before w n) n (values_after w (values_before w n) n (length (session w.plan n).gates))
+values_before w = ends_before (λ r v. 0) (λ before s. values_after w before s (length (session w.plan s).gates))
 
 -- the value of wire v before gate t, and at the end
 abbrev pub value_before : World → ℕ → ℕ → ℕ → ℕ

@@ -5,4 +5,4 @@ use Rattle.party_program.proofs.deals.push_masks.Given as goal
 
 -- the deals before the masks of the gates from here on
 abbrev pub invariant-loop-gate : goal.invariant-loop-gate
-invariant-loop-gate l = AreDealsTo l.own (3 * prepared_before (session_of l.own) l.gate-index) l.list l.tally
+invariant-loop-gate l = AreDealsTo l.own (2 * prepared_before (session_of l.own) l.gate-index) l.list l.tally

@@ -1,0 +1,38 @@
+use Rattle.std.proofs.Common.{ℕ, ◌+◌, ◌*◌, true, false, ◌&&◌, length, sym, ap, ap₂, ◌∙◌, arith}
+use Rattle.job_session.specs.SlotNumbers.{prepared_before}
+use Rattle.job_session.proofs.SessionSlots.{ahead_product}
+use Rattle.party_program.specs.ProgramPlaces.{session_of}
+use Rattle.party_program.proofs.PreparedSlots.{found_there, found_product, in_mask_product, next_prepared, same_deals}
+use Rattle.party_program.proofs.deals.push_mask_products.Goals as goal
+use Rattle.party_program.proofs.deals.push_mask_products.Goals.{then-is_product, else-is_product}
+
+pub push_slot-requires-clause-next : goal.push_slot-requires-clause-next
+push_slot-requires-clause-next c =
+    let own = c.args.own.now in
+    let x = session_of own in
+    let t = c.loop-gate.gate-index in
+    let k : ℕ = 2 * prepared_before x (length x.gates) + prepared_before x t in
+    let less = found_there x _ c.part.ensures _ c.gates-gate-items.ensures t c.loop-gate-test.true in
+    let product = found_product x _ c.part.ensures _ c.gates-gate-items.ensures t c.loop-gate-test.true _ true c.is_product.ensures c.if-is_product.true in
+    let is = ap₂ (λ a b. a && b) c.requires.prepared product in
+    (k, in_mask_product own c.requires.steps c.parties.ensures.sound t less c.args.counts c.requires.counts is k (sym (ahead_product x c.requires.ahead t)), c.loop-gate.invariant)
+
+pub loop-gate-preserved : goal.loop-gate-preserved
+loop-gate-preserved c =
+    let own = c.args.own.now in
+    let x = session_of own in
+    let t = c.loop-gate.gate-index in
+    let k : ℕ = 2 * prepared_before x (length x.gates) + prepared_before x t in
+    let less = found_there x _ c.part.ensures _ c.gates-gate-items.ensures t c.loop-gate-test.true in
+    elim c.if-is_product.branch [
+      | then-is_product w ↦
+          let product = found_product x _ c.part.ensures _ c.gates-gate-items.ensures t c.loop-gate-test.true _ true c.is_product.ensures w.if-is_product.true in
+          let is = ap₂ (λ a b. a && b) c.requires.prepared product in
+          let next = next_prepared own c.requires.steps c.parties.ensures.sound t less true is in
+          same_deals own (k + 1) (2 * prepared_before x (length x.gates) + prepared_before x (t + 1)) _ _ _ _ (omega (arith, next)) w.list-is w.tally-is (w.push_slot.ensures k (in_mask_product own c.requires.steps c.parties.ensures.sound t less c.args.counts c.requires.counts is k (sym (ahead_product x c.requires.ahead t))) c.loop-gate.invariant)
+      | else-is_product w ↦
+          let product = found_product x _ c.part.ensures _ c.gates-gate-items.ensures t c.loop-gate-test.true _ false c.is_product.ensures w.if-is_product.false in
+          let is = ap₂ (λ a b. a && b) c.requires.prepared product in
+          let next = next_prepared own c.requires.steps c.parties.ensures.sound t less false is in
+          same_deals own k (2 * prepared_before x (length x.gates) + prepared_before x (t + 1)) _ _ _ _ (omega (arith, next)) w.list-is w.tally-is c.loop-gate.invariant
+    ]

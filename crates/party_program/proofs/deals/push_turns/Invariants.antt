@@ -1,0 +1,8 @@
+use Rattle.std.proofs.Common.{◌*◌}
+use Rattle.job_session.specs.SlotNumbers.{prepared_before}
+use Rattle.party_program.specs.ProgramPlaces.{AreDealsTo, session_of}
+use Rattle.party_program.proofs.deals.push_turns.Given as goal
+
+-- the deals before the masks of the gates from here on
+abbrev pub invariant-loop-gate : goal.invariant-loop-gate
+invariant-loop-gate l = AreDealsTo l.own (3 * prepared_before (session_of l.own) l.gate-index) l.list l.tally
