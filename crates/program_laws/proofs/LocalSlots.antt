@@ -1,7 +1,8 @@
 -- Slot after slot, a party posts and delivers what it computes by itself.
-use Rattle.std.proofs.Common.{◌≡◌, ◌≢◌, ℕ, zero, suc, ◌+◌, ◌*◌, ◌<◌, ◌≤◌, Bool, true, false, not, ◌&&◌, nat_lt, if◌then◌else◌, List, length, refl, sym, ap, ◌∙◌, subst, arith}
-use Rattle.std.specs.Prelude.{Some}
-use Rattle.std.proofs.lemmas.Bool.{cases_eq, cases_lt, cases_Bool, cond-true, cond-false, eq-eqb, ne_eqb, lt-ltb, le-ltb, both_ways}
+use Rattle.std.proofs.Common.{◌≡◌, ◌≢◌, ℕ, zero, suc, ◌+◌, ◌*◌, ◌<◌, ◌≤◌, Bool, true, false, not, ◌&&◌, nat_lt, if◌then◌else◌, List, [], ◌∷◌, length, refl, sym, ap, ◌∙◌, subst, arith}
+use Rattle.std.specs.Prelude.{Some, nat_eq}
+use Rattle.std.specs.List.{list_any}
+use Rattle.std.proofs.lemmas.Bool.{cases_eq, cases_lt, cases_Bool, cond-true, cond-false, eq-eqb, ne_eqb, lt-ltb, le-ltb, both_ways, or_left}
 use Rattle.std.proofs.lemmas.List.Elements.{All-get_or}
 use mathlib.Core.Logic.{inl, inr}
 use Rattle.list_laws.specs.Lists.{joined}
@@ -15,9 +16,10 @@ use Rattle.job_session.specs.declared.source.Source.TheVariants.{Given as GivenB
 use Rattle.job_session.specs.declared.values.KeptWire.{KeptWire}
 use Rattle.job_session.specs.Sessions.{Session, Slot, given_by, owners, readers, source, gate, kept_wire, no_kept, output_wire, is_prepared, mask_wire, product_wire}
 use Rattle.job_session.specs.Sessions.Slot.{Input, At_gate, Output, Mask, Mask_product, Masked, Kept}
-use Rattle.job_session.specs.SlotNumbers.{prepared_before, first_input, first_of_gate}
+use Rattle.job_session.specs.SlotNumbers.{first_input, first_of_gate}
+use Rattle.job_session.specs.KeptWires.{sets_in, slot_sets}
 use Rattle.job_session.specs.SoundSessions.{Inside, IsWired}
-use Rattle.job_session.proofs.SessionSlots.{slots_are_numbered}
+use Rattle.job_session.proofs.SessionSlots.{masks_before_product, product_before_inputs, slot_kinds, slots_are_numbered}
 use Rattle.job_plan.specs.Plans.{Plan, session, slot, slots, slot_number, is_holder, gives, given_before, opens_to}
 use Rattle.job_plan.specs.declared.key.Key.{Key}
 use Rattle.share_world.specs.Worlds.{World}
@@ -82,10 +84,10 @@ module _ (w : World) (got : Key → ℕ) (s p : ℕ) (h : Runs w s p) where
     pub second : Has w got s p h σ (mask_wire x t Second) (local_mask w got p s t Second)
     pub product : Has w got s p h σ (product_wire x t) (local_mask_product w got p s t)
 
-  -- the wires have these summands, the first products are prepared, and the first outputs are there
-  pub record Stands (wire : ℕ → ℕ → ℕ) (prepared count k outs : ℕ) (σ : State) : Type 0 where
+  -- the wires have these summands, the products are prepared, and the first outputs are there
+  pub record Stands (wire : ℕ → ℕ → ℕ) (count k outs : ℕ) (σ : State) : Type 0 where
     pub wires : (v i : ℕ) → v < x.wires → i < m → is_holder plan p i ≡ true → σ.rows v i ≡ wire v i
-    pub trips : (t : ℕ) → t < prepared → is_prepared x t ≡ true → Trip t σ
+    pub trips : (t : ℕ) → t < length x.gates → is_prepared x t ≡ true → Trip t σ
     pub ready : Ready w got s p h k count σ
     pub outputs : (o : ℕ) → o < outs → opens_to w.plan s p (Output o) ≡ true → σ.outputs o ≡ Some (local_output w got p s o)
 
@@ -112,76 +114,104 @@ module _ (w : World) (got : Key → ℕ) (s p : ℕ) (h : Runs w s p) where
   abbrev g : ℕ
   g = length x.gates
 
-  abbrev first_of : ℕ → ℕ
-  first_of t = 3 * prepared_before x t
-
-  abbrev Preparing : ℕ → State → Type 0
-  Preparing t = Stands (λ v i. 0) t 0 (first_of t) 0
-
   abbrev one : Bool → ℕ
   one b = if b then 1 else 0
 
-  prepare : (t : ℕ) → t < g → Up (first_of t) (Preparing t) → Up (first_of (suc t)) (Preparing (suc t))
-  prepare t lt up = elim (cases_Bool (is_prepared x t)) [
-    | inl is ↦
-        let k : ℕ = first_of t in
-        let more : one (is_prepared x t) ≡ 1 = cond-true (is_prepared x t) 1 0 is in
-        let r1 : ℕ = mask_wire x t First in
-        let r2 : ℕ = mask_wire x t Second in
-        let r3 : ℕ = product_wire x t in
-        let a : ℕ → ℕ = local_mask w got p s t First in
-        let b : ℕ → ℕ = local_mask w got p s t Second in
-        let c : ℕ → ℕ = local_mask_product w got p s t in
-        let at1 = there (Mask t First) (lt, is) in
-        let at2 = there (Mask t Second) (lt, is) in
-        let at3 = there (Mask_product t) (lt, is) in
-        let FirstSet : State → Type 0 = λ τ. (σ : State) × Preparing t σ × Rowed w got s p h r1 a (suc k) 0 σ τ in
-        let BothSet : State → Type 0 = λ υ. (σ : State) × (τ : State) × Preparing t σ × Rowed w got s p h r1 a (suc k) 0 σ τ × Rowed w got s p h r2 b (suc (k + 1)) 0 τ υ in
-        let up1 : Up (suc k) FirstSet = go_on k k (Preparing t) FirstSet refl up (λ σ i. doing k _ FirstSet σ (mask_slot w got s p h t First k 0 at1.1 at1.0 σ i.ready) (λ τ r. (σ, i, r))) in
-        let up2 : Up (suc (k + 1)) BothSet = go_on (suc k) (k + 1) FirstSet BothSet (omega arith) up1 (λ τ d. doing (k + 1) _ BothSet τ (mask_slot w got s p h t Second (k + 1) 0 at2.1 at2.0 τ (ready_at w got s p h (suc k) (k + 1) 0 τ (omega arith) d.2.ready)) (λ υ r. (d.0, τ, d.1, d.2, r))) in
-        let up3 : Up (suc (k + 2)) (Preparing (suc t)) = go_on (suc (k + 1)) (k + 2) BothSet (Preparing (suc t)) (omega arith) up2 (λ τ d.
-        let σ : State = d.0 in
-        let ρ : State = d.1 in
-        let i = d.2 in
-        let ra = d.3 in
-        let rb = d.4 in
-        doing (k + 2) (Rowed w got s p h r3 c (suc (k + 2)) 0 τ) (Preparing (suc t)) τ (product_of_masks w got s p h t (k + 2) 0 at3.1 at3.0 τ (ready_at w got s p h (suc (k + 1)) (k + 2) 0 τ (omega arith) rb.ready) (λ j lj held. rb.others r1 j (omega arith) ∙ ra.here j lj held) rb.here) (λ υ rc. record {
-          wires = λ v j lv lj held. rc.others v j (omega (arith, lv)) ∙ rb.others v j (omega (arith, lv)) ∙ ra.others v j (omega (arith, lv)) ∙ i.wires v j lv lj held;
-          trips = λ u lu its. elim (cases_eq u t) [
-            | inl same ↦ subst (λ z. Trip z υ) (sym same) (record {
-              first = λ j lj held. rc.others r1 j (omega arith) ∙ rb.others r1 j (omega arith) ∙ ra.here j lj held;
-              second = λ j lj held. rc.others r2 j (omega arith) ∙ rb.here j lj held;
-              product = rc.here;
-            })
-            | inr ne ↦ trip_stays u r3 τ υ rc.others (omega (arith, ne)) (omega (arith, ne)) (omega (arith, ne))
-                (trip_stays u r2 ρ τ rb.others (omega (arith, ne)) (omega (arith, ne)) (omega (arith, ne))
-                (trip_stays u r1 σ ρ ra.others (omega (arith, ne)) (omega (arith, ne)) (omega (arith, ne)) (i.trips u (omega (arith, lu, ne)) its)))
-          ];
-          ready = ready_at w got s p h (suc (k + 2)) (first_of (suc t)) 0 υ (omega (arith, more)) rc.ready;
-          outputs = λ o lo r. absurd (omega (arith, lo));
-        })) in
-        up_to (suc (k + 2)) (first_of (suc t)) (Preparing (suc t)) (Preparing (suc t)) (omega (arith, more)) up3 (λ σ i. i)
-    | inr not' ↦
-        let none : one (is_prepared x t) ≡ 0 = cond-false (is_prepared x t) 1 0 not' in
-        up_to (first_of t) (first_of (suc t)) (Preparing t) (Preparing (suc t)) (omega (arith, none)) up (λ σ i. record {
-          wires = i.wires;
-          trips = λ u lu its. elim (cases_eq u t) [
-            | inl same ↦ absurd (both_ways (is_prepared x t) not' (subst (λ z. is_prepared x z ≡ true) same its))
-            | inr ne ↦ i.trips u (omega (arith, lu, ne)) its
-          ];
-          ready = ready_at w got s p h (first_of t) (first_of (suc t)) 0 σ (omega (arith, none)) i.ready;
-          outputs = λ o lo r. absurd (omega (arith, lo));
-        })
-  ]
+  -- the row that a slot of a mask or of a product of masks sets, and the summands that it gets
+  abbrev row_of : Slot → ℕ
+  row_of (Mask t side) = mask_wire x t side
+  row_of (Mask_product t) = product_wire x t
+  row_of z = 0
 
-  prepared : (t : ℕ) → t ≤ g → Up (first_of t) (Preparing t)
-  prepared zero le = up_to 0 (first_of 0) (λ σ. σ ≡ new_state) (Preparing 0) (omega arith) (tt, refl) (λ σ e. subst (Preparing 0) (sym e) (record {
+  abbrev made_in : Slot → ℕ → ℕ
+  made_in (Mask t side) = local_mask w got p s t side
+  made_in (Mask_product t) = local_mask_product w got p s t
+  made_in z i = 0
+
+  -- before slot k, which is no later than the first input's: each slot so far has set its row, in whatever order they stand
+  record Preparing (k : ℕ) (σ : State) : Type 0 where
+    wires : (v i : ℕ) → v < x.wires → i < m → is_holder plan p i ≡ true → σ.rows v i ≡ 0
+    made : (z : Slot) → Inside x z → slot_number plan s z < k → Has w got s p h σ (row_of z) (made_in z)
+    ready : Ready w got s p h k 0 σ
+
+  -- a slot before the inputs sets one row, which is no wire's
+  sets_one : (z : Slot) → slot_number plan s z < first_input x → (sets_in x z ≡ row_of z ∷ []) × (x.wires ≤ row_of z)
+  sets_one (Mask t First) l = (refl, omega arith)
+  sets_one (Mask t Second) l = (refl, omega arith)
+  sets_one (Mask_product t) l = (refl, omega arith)
+  sets_one (Input v) l = absurd (omega (arith, l))
+  sets_one (At_gate t) l = absurd (omega (arith, l))
+  sets_one (Output o) l = absurd (omega (arith, l))
+  sets_one (Masked t First) l = absurd (omega (arith, l))
+  sets_one (Masked t Second) l = absurd (omega (arith, l))
+  sets_one (Kept j) l = absurd (omega (arith, l))
+
+  sets_its_row : (z : Slot) → Inside x z → slot_number plan s z < first_input x → slot_sets x (slot_number plan s z) (row_of z) ≡ true
+  sets_its_row z inside l =
+      ap (λ y. list_any (nat_eq (row_of z)) (sets_in x y)) (there z inside).1 ∙ ap (list_any (nat_eq (row_of z))) (sets_one z l).0
+      ∙ or_left (nat_eq (row_of z) (row_of z)) false (eq-eqb (row_of z) (row_of z) refl)
+
+  -- no other slot sets it
+  other_row : (y z : Slot) → Inside x y → Inside x z → slot_number plan s y < slot_number plan s z → slot_number plan s z < first_input x → row_of y ≢ row_of z
+  other_row y z iy iz less l e =
+      let k : ℕ = slot_number plan s z in
+      let sets : slot_sets x (slot_number plan s y) (row_of z) ≡ true = subst (λ r. slot_sets x (slot_number plan s y) r ≡ true) e (sets_its_row y iy (omega (arith, less, l))) in
+      both_ways (slot_sets x k (row_of z)) (wired.order.once (slot_number plan s y) k (row_of z) less (there z iz).0 sets) (sets_its_row z iz l)
+
+  made_next : (z : Slot) → Inside x z → slot_number plan s z < first_input x → (σ τ : State) → Preparing (slot_number plan s z) σ
+      → Rowed w got s p h (row_of z) (made_in z) (suc (slot_number plan s z)) 0 σ τ → Preparing (suc (slot_number plan s z)) τ
+  made_next z inside l σ τ i r = record {
+    wires = λ v j lv lj held. r.others v j (omega (arith, lv, (sets_one z l).1)) ∙ i.wires v j lv lj held;
+    made = λ y iy ly. elim (cases_eq (slot_number plan s y) (slot_number plan s z)) [
+      | inl same ↦ subst (λ q. Has w got s p h τ (row_of q) (made_in q)) (sym (there z inside).1 ∙ ap (slot plan s) (sym same) ∙ (there y iy).1) r.here
+      | inr ne ↦ λ j lj held. r.others (row_of y) j (other_row y z iy inside (omega (arith, ly, ne)) l) ∙ i.made y iy (omega (arith, ly, ne)) j lj held
+    ];
+    ready = r.ready;
+  }
+
+  -- what makes its row
+  make : (z : Slot) → Inside x z → slot_number plan s z < first_input x
+      → ((σ : State) → Preparing (slot_number plan s z) σ → Doing w got s p h (slot_number plan s z) (Rowed w got s p h (row_of z) (made_in z) (suc (slot_number plan s z)) 0 σ) σ)
+      → Up (slot_number plan s z) (Preparing (slot_number plan s z)) → Up (suc (slot_number plan s z)) (Preparing (suc (slot_number plan s z)))
+  make z inside l does up =
+      let k : ℕ = slot_number plan s z in
+      go_on k k (Preparing k) (Preparing (suc k)) refl up (λ σ i. doing k _ (Preparing (suc k)) σ (does σ i) (λ τ r. made_next z inside l σ τ i r))
+
+  prepare : (z : Slot) → Inside x z → slot_number plan s z < first_input x → Up (slot_number plan s z) (Preparing (slot_number plan s z)) → Up (suc (slot_number plan s z)) (Preparing (suc (slot_number plan s z)))
+  prepare (Mask t side) inside l up =
+      let at = there (Mask t side) inside in
+      make (Mask t side) inside l (λ σ i. mask_slot w got s p h t side (slot_number plan s (Mask t side)) 0 at.1 at.0 σ i.ready) up
+  prepare (Mask_product t) inside l up =
+      let at = there (Mask_product t) inside in
+      let behind = masks_before_product x t inside.0 inside.1 in
+      make (Mask_product t) inside l (λ σ i. product_of_masks w got s p h t (slot_number plan s (Mask_product t)) 0 at.1 at.0 σ i.ready (i.made (Mask t First) inside (omega (arith, behind))) (i.made (Mask t Second) inside behind)) up
+  prepare (Input v) inside l up = absurd (omega (arith, l))
+  prepare (At_gate t) inside l up = absurd (omega (arith, l))
+  prepare (Output o) inside l up = absurd (omega (arith, l))
+  prepare (Masked t First) inside l up = absurd (omega (arith, l))
+  prepare (Masked t Second) inside l up = absurd (omega (arith, l))
+  prepare (Kept j) inside l up = absurd (omega (arith, l))
+
+  prepared : (k : ℕ) → k ≤ first_input x → Up k (Preparing k)
+  prepared zero le = up_to 0 0 (λ σ. σ ≡ new_state) (Preparing 0) refl (tt, refl) (λ σ e. subst (Preparing 0) (sym e) (record {
     wires = λ v i lv li held. refl;
-    trips = λ t lt its. absurd (omega (arith, lt));
+    made = λ z i l. absurd (omega (arith, l));
     ready = record { sums = λ i li. refl; drawn = refl; given = refl };
-    outputs = λ o lo r. absurd (omega (arith, lo));
   }))
-  prepared (suc t) le = prepare t (omega (arith, le)) (prepared t (omega (arith, le)))
+  prepared (suc k) le =
+      slot_kinds x (λ k z. k < first_input x → Up k (Preparing k) → Up (suc k) (Preparing (suc k))) prepare k
+      (omega (arith, le, (slots_are_numbered x).count)) (omega (arith, le)) (prepared k (omega (arith, le)))
+
+  -- all of them have
+  all_trips : (σ : State) → Preparing (first_input x) σ → (t : ℕ) → t < g → is_prepared x t ≡ true → Trip t σ
+  all_trips σ i t lt is =
+      let masks = masks_before_product x t lt is in
+      let product = product_before_inputs x t lt is in
+      record {
+        first = i.made (Mask t First) (lt, is) (omega (arith, masks, product));
+        second = i.made (Mask t Second) (lt, is) (omega (arith, masks, product));
+        product = i.made (Mask_product t) (lt, is) product;
+      }
 
   -- ---- inputs
 
@@ -195,7 +225,7 @@ module _ (w : World) (got : Key → ℕ) (s p : ℕ) (h : Runs w s p) where
   input_at v = first_input x + v
 
   abbrev Giving : ℕ → State → Type 0
-  Giving v = Stands (started v) g (given_before plan p s v) (input_at v) 0
+  Giving v = Stands (started v) (given_before plan p s v) (input_at v) 0
 
   given_next : (v count : ℕ) (σ τ : State) → v < many → Giving v σ → count ≡ given_before plan p s (suc v) → Rowed w got s p h v (run.start v) (suc (input_at v)) count σ τ → Giving (suc v) τ
   given_next v count σ τ lv i counted r =
@@ -241,10 +271,10 @@ module _ (w : World) (got : Key → ℕ) (s p : ℕ) (h : Runs w s p) where
       set_input v (given_before plan p s v) lv (omega (arith, none)) (λ σ i. carried_input w got s p h v r c j (input_at v) (given_before plan p s v) is at.1 at.0 lv σ i.ready) up
 
   given : (v : ℕ) → v ≤ many → Up (input_at v) (Giving v)
-  given zero le = up_to (first_of g) (input_at 0) (Preparing g) (Giving 0) (omega arith) (prepared g (omega arith)) (λ σ i. record {
+  given zero le = up_to (first_input x) (input_at 0) (Preparing (first_input x)) (Giving 0) (omega arith) (prepared (first_input x) (omega arith)) (λ σ i. record {
     wires = λ v j lv lj held. i.wires v j lv lj held ∙ sym (cond-false (nat_lt v 0) (run.start v j) 0 (le-ltb v 0 (omega arith)));
-    trips = i.trips;
-    ready = ready_at w got s p h (first_of g) (input_at 0) 0 σ (omega arith) i.ready;
+    trips = all_trips σ i;
+    ready = ready_at w got s p h (first_input x) (input_at 0) 0 σ (omega arith) i.ready;
     outputs = λ o lo r. absurd (omega (arith, lo));
   })
   given (suc v) le = give v (source x v) (omega (arith, le)) refl (given v (omega (arith, le)))
@@ -258,7 +288,7 @@ module _ (w : World) (got : Key → ℕ) (s p : ℕ) (h : Runs w s p) where
   gate_at t = first_of_gate x t
 
   abbrev Gating : ℕ → State → Type 0
-  Gating t = Stands (summands run t) g all_given (gate_at t) 0
+  Gating t = Stands (summands run t) all_given (gate_at t) 0
 
   -- gate t sets its output
   gate_next : (t k : ℕ) (σ ρ τ : State) → t < g → Gating t σ → ρ.rows ≡ σ.rows → suc k ≡ gate_at (suc t) → Rowed w got s p h (gate x t).output (made_at w got s p h t) (suc k) all_given ρ τ → Gating (suc t) τ
@@ -350,7 +380,7 @@ module _ (w : World) (got : Key → ℕ) (s p : ℕ) (h : Runs w s p) where
 
   -- before the slot of output o
   abbrev InOutputs : ℕ → State → Type 0
-  InOutputs o = Stands (summands run g) g all_given (output_at o) o
+  InOutputs o = Stands (summands run g) all_given (output_at o) o
 
   deliver : (o : ℕ) → o < length (readers x) → Up (output_at o) (InOutputs o) → Up (output_at (suc o)) (InOutputs (suc o))
   deliver o lo up =
@@ -387,7 +417,7 @@ module _ (w : World) (got : Key → ℕ) (s p : ℕ) (h : Runs w s p) where
 
   -- before the slot of the wire that is kept at place j
   abbrev pub InKept : ℕ → State → Type 0
-  InKept j = Stands (summands run g) g all_given (kept_at j) all_read
+  InKept j = Stands (summands run g) all_given (kept_at j) all_read
 
   keep : (j : ℕ) → j < length x.kept → Up (kept_at j) (InKept j) → Up (kept_at (suc j)) (InKept (suc j))
   keep j lj up =
