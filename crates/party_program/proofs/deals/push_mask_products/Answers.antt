@@ -1,4 +1,4 @@
-use Rattle.std.proofs.Common.{ℕ, ◌+◌, ◌*◌, true, false, ◌&&◌, length, sym, ap, ap₂, ◌∙◌, arith}
+use Rattle.std.proofs.Common.{ℕ, ◌+◌, ◌*◌, true, false, ◌&&◌, length, sym, ap₂, arith}
 use Rattle.job_session.specs.SlotNumbers.{prepared_before}
 use Rattle.job_session.proofs.SessionSlots.{ahead_product}
 use Rattle.party_program.specs.ProgramPlaces.{session_of}
