@@ -16,6 +16,7 @@ import pathlib
 import random
 import re
 import shutil
+import signal
 import socket
 import ssl
 import subprocess
@@ -449,6 +450,17 @@ def programs_that_are_late(program, top):
     expect(((done := tried()).returncode, done.stdout, done.stderr) == (0, wanted, ''), f'{done}')
     pathlib.Path(top, 'said').write_text('proved\n')
     expect((done := tried()).returncode == 1 and done.stdout.count(' is NOT refused with ') == len(edits) > 0, f'{done}')
+
+
+def a_gate_that_is_late(program, top):
+    """What the gate waits for is ended at its limit, which is told in one line, and what it took is told all the same."""
+    times, took = TOP / '.ci/times', pathlib.Path(top, 'took')
+    shell = f'{times} watch $$ {took} 1 & watch=$!; sleep 100; status=$?; kill $watch; wait $watch; {times} tell $$ {took}; exit $status'
+    began = time.monotonic()
+    done = subprocess.run(['bash', '-c', shell], capture_output=True, text=True, timeout=MOST_SECONDS)
+    told = done.stderr.splitlines()
+    expect(done.returncode == 128 + signal.SIGTERM and told.count('gate: rt ci had not ended after 1 seconds') == 1, f'{done}')
+    expect('processor-minutes' in done.stdout and time.monotonic() - began < 50, f'{done}')
 
 
 # Folders.
@@ -1004,7 +1016,7 @@ def helps_are_there(program, top):
 
 CASES = [circuits_are_their_numbers, layers_are_together, circuits_come_into_layers, s_boxes_are_the_standards, aes_is_the_standards,
          circuits_have_limits, numbers_come_back, numbers_are_signed_and_divided, numbers_that_do_not_fit, other_lines_are_refused,
-         views_are_passed_over, outputs_that_fail, programs_that_are_not_there, programs_that_are_late, odd_folders, links_and_folders,
+         views_are_passed_over, outputs_that_fail, programs_that_are_not_there, programs_that_are_late, a_gate_that_is_late, odd_folders, links_and_folders,
          changed_jobs_are_read_or_refused, expressions_are_words, refusals_are_those_of_the_rows,
          circuits_come_to_the_rows, examples_have_their_circuits, expressions_are_refused_in_one_line, an_auction_of_two, jobs_of_calls,
          jobs_with_helpers, numbers_are_divided_by_values, doubts_are_told, formulas_are_those_of_the_rows, pictures_count_what_runs_send,
