@@ -87,6 +87,7 @@ SESSION_VALUES = [
 # Products are told in version 2 alone, after the layout and before the owners.
 PRODUCTS = [
     (TOP + SESSION + 'products = "direct"\n', 'job 4 Unknown session=0 name=products'),
+    (TOP + SESSION + 'products = "ahead"\n', 'job 4 Unknown session=0 name=products'),
     (TOLERATING + '[[session]]\ncircuit = "."\nlayout = ""\nproducts = ["prepared"]\n', 'job 5 WrongKind session=0 field=products'),
     (TOLERATING + '[[session]]\ncircuit = "."\nlayout = ""\nproducts = ""\n', 'job 3 Missing session=0 field=owners'),
     (TOLERATING + SESSION + 'products = "prepared"\n' + SESSION + 'products = "Direct"\n', 'job 17 BadProducts session=1'),
@@ -94,6 +95,9 @@ PRODUCTS = [
     (TOLERATING + BAD_SESSION.replace('expr', 'none') + 'circuit = "m"\nproducts = ""\n', 'job 11 BadLayout session=0'),
     (TOLERATING + BAD_SESSION + 'circuit = "m"\nproducts = ""\n', 'job 17 BadProducts session=0'),
     (TOLERATING + BAD_SESSION + 'circuit = "m"\nproducts = "prepared"\n', 'job 7 BadOwner session=0 at=1'),
+    (TOLERATING + BAD_SESSION + 'circuit = "m"\nproducts = "ahead"\n', 'job 7 BadOwner session=0 at=1'),
+    *((TOLERATING + SESSION + 'products = "ahead"\n' + SESSION + f'products = "{text}"\n', 'job 17 BadProducts session=1')
+      for text in ['Ahead', 'ahea', 'aheads', ' ahead', 'prepared ahead']),
 ]
 
 # In version 2 an owner may be an output value below 1,024 of an earlier session, in numbers without leading zeros. Whatever else begins with an

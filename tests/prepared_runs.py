@@ -1,7 +1,7 @@
 """Jobs whose products are prepared. The words of messages are computed apart from the program, by the rules of docs/PROTOCOL.md."""
 
 from pairs import FROM_C, OTHER_FACTORS
-from product import CHECK, Edit, RUN, Row, SEED, SESSION, TAPE_A, TAPE_B, VERSION_2, Whole
+from product import CHECK, Edit, RUN, Row, SEED, SESSION, TAPE_A, TAPE_B, TAPE_C, VERSION_2, Whole
 
 # The product of 5 and 7, prepared, in a job of version 2.
 PREPARED = [
@@ -9,6 +9,16 @@ PREPARED = [
     Edit('job.toml', 'layout = "ring"', 'layout = "ring"\nproducts = "prepared"'),
     Edit('party_a.toml', TAPE_A, 'tape = "2 3 4 6 1 2 10 20"'),
     Edit('party_b.toml', TAPE_B, 'tape = "1 5 3 4 30 40"'),
+]
+
+# That product times 7, the masks of both products ahead of the products of masks.
+AHEAD = [
+    *VERSION_2,
+    Edit('job.toml', 'layout = "ring"', 'layout = "ring"\nproducts = "ahead"'),
+    Whole('mul.txt', '2 4\n2 1 1\n1 1\n2 1 0 1 2 MUL\n2 1 2 1 3 MUL\n'),
+    Edit('party_a.toml', TAPE_A, 'tape = "2 3 4 6 7 8 9 10 1 2 11 12 10 20"'),
+    Edit('party_b.toml', TAPE_B, 'tape = "1 5 13 14 3 4 15 16 30 40"'),
+    Edit('party_c.toml', TAPE_C, 'tape = "5 6 17 18"'),
 ]
 
 # Beside it, and before it, the product of the first job, which is dealt itself.
@@ -97,6 +107,49 @@ PREPARED_RUNS = [
             'words b 10\n'
             'words c 4\n'
             'messages 54\n'),
+    Row('view_of_two_products_ahead', RUN + ['--view', 'c'], AHEAD,
+        out='out 0 0 c 245\n'
+            'view c\n'
+            '0 0 0 b c 1\n'
+            '0 0 1 a c 2\n'
+            '0 1 0 b c 5\n'
+            '0 1 1 a c 4\n'
+            '0 2 0 b c 13\n'
+            '0 2 1 a c 7\n'
+            '0 3 0 b c 14\n'
+            '0 3 1 a c 9\n'
+            '0 4 0 a c 1\n'
+            '0 4 1 a c 2\n'
+            '0 4 0 b c 3\n'
+            '0 4 1 b c 4\n'
+            '0 4 0 c b 5\n'
+            '0 4 1 c a 6\n'
+            '0 4 2 c a 3\n'
+            '0 4 2 c b 3\n'
+            '0 5 0 a c 11\n'
+            '0 5 1 a c 12\n'
+            '0 5 0 b c 15\n'
+            '0 5 1 b c 16\n'
+            '0 5 0 c b 17\n'
+            '0 5 1 c a 18\n'
+            '0 5 2 c a 180\n'
+            '0 5 2 c b 180\n'
+            '0 6 0 a c 10\n'
+            '0 6 1 a c 20\n'
+            '0 7 0 b c 30\n'
+            '0 7 1 b c 40\n'
+            '0 8 2 a c 228\n'
+            '0 9 2 a c 187\n'
+            '0 11 2 a c 31\n'
+            '0 12 2 a c 183\n'
+            '0 14 2 a c 185\n'),
+    Row('check_of_two_products_ahead', CHECK, AHEAD,
+        out=GROUPS
+            + 'session 0 gates 2 products 2 messages 57\n'
+            'words a 14\n'
+            'words b 10\n'
+            'words c 4\n'
+            'messages 57\n'),
     # The word of each mask that c can't see grows as the factor does, and what is opened stays.
     Row('other_factors_of_a_prepared_product', FROM_C, PREPARED + OTHER_FACTORS,
         out='first\n'

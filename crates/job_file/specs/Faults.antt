@@ -15,7 +15,7 @@ use Rattle.job_file.specs.declared.fault.JobFault.{JobFault}
 use Rattle.job_file.specs.declared.fault.JobFault.TheVariants.{NotToml, Version as OtherVersion, Missing, Unknown, WrongKind, BadRing, Names, SessionCount, BadFileName, BadLayout, BadProducts, BadOwner, BadCarry, BadReader, BadHost, BadPort, BadFrames, BadViews, BadTolerated, TooManyTolerated}
 use Rattle.job_file.specs.Names.{field_text, field_kind, top_fields, session_fields, is_file_name, is_host, layout_of}
 use Rattle.job_file.specs.Owners.{is_carry, owner_in}
-use Rattle.job_file.specs.Forms.{JobForm, TextList, job_form, is_version_two, adversary_field, prepared_in, short_frames_in, own_views_in, integer, text, texts, items, lists, tables}
+use Rattle.job_file.specs.Forms.{JobForm, TextList, job_form, is_version_two, adversary_field, products_in, short_frames_in, own_views_in, integer, text, texts, items, lists, tables}
 use Rattle.job_file.specs.declared.limits.TheConstants.{LAST_PORT, MOST_TOLERATED}
 use Rattle.plan_faults.specs.declared.limits.TheConstants.{MOST_SESSIONS}
 
@@ -164,7 +164,7 @@ unfoldable pub session_values_fault : Bool → List (List ℕ) → ℕ → Membe
 session_values_fault version_two names session fields = first_fault
     ((not (is_file_name (text Circuit fields)) answers BadFileName session)
     ∷ (is_none (layout_of version_two (text Layout fields)) answers BadLayout session)
-    ∷ (is_none (prepared_in fields) answers BadProducts session)
+    ∷ (is_none (products_in fields) answers BadProducts session)
     ∷ owners_fault version_two names session 0 (texts Owners fields)
     ∷ option_map (λ bad. BadReader session bad.0 bad.1)
     (bad_in_lists names 0 (lists Readers fields))

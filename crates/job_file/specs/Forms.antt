@@ -7,22 +7,25 @@ use Rattle.toml.specs.Data.{Data, Members}
 use Rattle.toml_fields.specs.Fields.{has_field, integer_at, text_at, items_at, texts_at, texts_of, fields_of}
 use Rattle.party_set.specs.Names.{party_named}
 use Rattle.job_file.specs.declared.field.Field.{Field}
-use Rattle.job_file.specs.declared.field.Field.TheVariants.{Version, RingBits, Parties, Formula, Tolerated, Hosts, Port, Frames, Views, Session, Circuit, Layout, Products, Owners, Readers}
+use Rattle.job_file.specs.declared.field.Field.TheVariants.{Version, RingBits, Parties, Formula, Tolerated, Hosts, Port, Frames, Views, Session, Circuit, Layout, Products as ProductsField, Owners, Readers}
 use Rattle.job_file.specs.declared.layout.SessionLayout.{SessionLayout}
 use Rattle.job_file.specs.declared.layout.SessionLayout.TheVariants.{Gates}
 use Rattle.circuit_model.specs.declared.layout.CircuitLayout.TheVariants.{Ring}
 use Rattle.job_file.specs.declared.owner.JobOwner.{JobOwner}
 use Rattle.job_file.specs.declared.owner.JobOwner.TheVariants.{Party}
-use Rattle.job_file.specs.Names.{field_text, layout_of, are_prepared, are_short, are_own}
+use Rattle.job_file.specs.declared.products.Products.{Products}
+use Rattle.job_file.specs.declared.products.Products.TheVariants.{Direct}
+use Rattle.job_file.specs.Names.{field_text, layout_of, are_short, are_own}
 use Rattle.job_file.specs.Owners.{owner_in}
+use Rattle.job_file.specs.Products.{products_of}
 use Rattle.party_set.specs.Parties.{with_party}
 
--- a session: the file of its circuit and what that has, whether its products are prepared, what gives each input value,
+-- a session: the file of its circuit and what that has, how its products are made, what gives each input value,
 -- and for each output value the mask of the parties that read it
 pub record SessionForm : Type 0 where
   pub circuit : List ℕ
   pub layout : SessionLayout
-  pub prepared : Bool
+  pub products : Products
   pub owners : List JobOwner
   pub readers : List ℕ
 
@@ -78,10 +81,10 @@ is_version_two fields = int_eq (integer Version fields) (pos 2)
 abbrev pub adversary_field : Members → Field
 adversary_field fields = if is_version_two fields then Tolerated else Formula
 
--- whether the products of a session are prepared: they are direct where no field tells
-unfoldable pub prepared_in : Members → Option Bool
-prepared_in fields =
-    if has_field (field_text Products) fields then are_prepared (text Products fields) else Some false
+-- how the products of a session are made: they are direct where no field tells
+unfoldable pub products_in : Members → Option Products
+products_in fields =
+    if has_field (field_text ProductsField) fields then products_of (text ProductsField fields) else Some Direct
 
 -- whether frames between nodes are short: they name their messages where no field tells
 unfoldable pub short_frames_in : Members → Option Bool
@@ -108,7 +111,7 @@ unfoldable pub session_form : Bool → List (List ℕ) → ℕ → Members → S
 session_form version_two names session fields = record {
   circuit = text Circuit fields;
   layout = unwrap_or (layout_of version_two (text Layout fields)) (Gates Ring);
-  prepared = unwrap_or (prepared_in fields) false;
+  products = unwrap_or (products_in fields) Direct;
   owners = map (owner_of version_two names session) (texts Owners fields);
   readers = map (mask_of names) (lists Readers fields);
 }

@@ -14,7 +14,7 @@ abbrev pub session_view : JobSession → SessionForm
 session_view session = record {
   circuit = session.circuit;
   layout = session.layout;
-  prepared = session.prepared;
+  products = session.products;
   owners = session.owners.items;
   readers = map (λ (group : Members). group.mask) session.readers.items;
 }

@@ -1,5 +1,6 @@
 pub mod Names
 pub mod Owners
+pub mod Products
 pub mod Forms
 pub mod Faults
 pub mod Answers

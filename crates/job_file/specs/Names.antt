@@ -82,13 +82,6 @@ layout_of version_two name =
     else if version_two && bytes_eq name (codes "expr") then Some Expressions
     else None
 
--- whether this text, direct or prepared, says that products are prepared
-unfoldable pub are_prepared : List ℕ → Option Bool
-are_prepared name =
-    if bytes_eq name (codes "direct") then Some false
-    else if bytes_eq name (codes "prepared") then Some true
-    else None
-
 -- whether this text, named or short, says that frames are short
 unfoldable pub are_short : List ℕ → Option Bool
 are_short name =

@@ -4,7 +4,7 @@ ghost use Rattle.std.specs.Option.{option_map};
 ghost use Rattle.toml_fields.specs.Keys.{least_unknown};
 ghost use Rattle.toml.specs.View.{table_view};
 ghost use Rattle.job_file.specs.Names.{top_fields, session_fields};
-ghost use Rattle.job_file.specs.Forms.{is_version_two, adversary_field, prepared_in, short_frames_in, own_views_in};
+ghost use Rattle.job_file.specs.Forms.{is_version_two, adversary_field, products_in, short_frames_in, own_views_in};
 ghost use Rattle.job_file.specs.Faults.{is_there, is_of_other_kind, required_fault, optional_fault, node_fault, unknown_fault};
 ghost use Rattle.job_file.specs.Answers.{TellsFault, TellsOrMemory};
 ghost use Rattle.list_laws.specs.Checks.{◌answers◌};
@@ -12,7 +12,8 @@ ghost use Rattle.job_file.specs.declared.fault.JobFault.TheVariants.{Unknown};
 
 use crate::fault::JobFault;
 use crate::field::Field;
-use crate::texts::{are_own, are_prepared, are_short};
+use crate::products::Products;
+use crate::texts::{are_own, are_short, products_of};
 use party_set::NameText;
 use std::alloc::{AllocError, Global};
 use toml::Table;
@@ -115,15 +116,15 @@ pub fn adversary_field(table: &Table) -> Field
     }
 }
 
-/// Whether the products of a session are prepared, by the text that tells it: they are direct where no field tells.
-#[tactic(auto, unfolding(crate::specs::Forms::prepared_in))]
-pub fn prepared_in(table: &Table) -> Option<bool>
-    ensures { result ≡ prepared_in (table_view table.now) }
+/// How the products of a session are made, by the text that tells it: they are direct where no field tells.
+#[tactic(auto, unfolding(crate::specs::Forms::products_in))]
+pub fn products_in(table: &Table) -> Option<Products>
+    ensures { result ≡ products_in (table_view table.now) }
 {
     if is_there(table, Field::Products) {
-        are_prepared(text_at(table, Field::Products.text()))
+        products_of(text_at(table, Field::Products.text()))
     } else {
-        Some(false)
+        Some(Products::Direct)
     }
 }
 

@@ -59,7 +59,7 @@ pub enum JobFault {
     BadLayout {
         session: u32,
     },
-    /// The text that tells whether products are prepared is neither of its two.
+    /// The text that tells how products are made is none of its three.
     BadProducts {
         session: u32,
     },

@@ -1,6 +1,7 @@
 //! Jobs.
 use crate::layout::SessionLayout;
 use crate::owner::JobOwner;
+use crate::products::Products;
 use mpc_ring::Ring;
 use outer_io::Hosts;
 use party_set::{Group, NameText, Names};
@@ -15,13 +16,13 @@ pub enum Adversary {
     Tolerated(Vec<Group>),
 }
 
-/// A session of a job: the file of its circuit, how that tells it, whether products are prepared, what gives each
-/// input value, and the group that reads each output value.
+/// A session of a job: the file of its circuit, how that tells it, how products are made, what gives each input
+/// value, and the group that reads each output value.
 #[derive(Drop)]
 pub struct JobSession {
     pub circuit: NameText,
     pub layout: SessionLayout,
-    pub prepared: bool,
+    pub products: Products,
     pub owners: Vec<JobOwner>,
     pub readers: Vec<Group>,
 }

@@ -8,7 +8,7 @@ ghost use Rattle.job_file.specs.Answers.{TellsFault, TellsOrMemory};
 ghost use Rattle.job_file.specs.Faults.{session_fields_fault, session_values_fault, sessions_fault, owner_fault, owners_fault, bad_in_lists};
 ghost use Rattle.job_file.specs.declared.fault.JobFault.TheVariants.{BadReader};
 
-use crate::check::{check, check_optional, check_required, check_session_known, prepared_in};
+use crate::check::{check, check_optional, check_required, check_session_known, products_in};
 use crate::fault::JobFault;
 use crate::field::Field;
 use crate::owner::{is_carry, owner_in};
@@ -52,7 +52,7 @@ fn check_values(
     let layout = layout_of(version_two, text_at(table, Field::Layout.text()));
     check(layout.is_none(), JobFault::BadLayout { session })?;
     check(
-        prepared_in(table).is_none(),
+        products_in(table).is_none(),
         JobFault::BadProducts { session },
     )?;
     check_owners(

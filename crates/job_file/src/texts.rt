@@ -1,10 +1,12 @@
 //! The texts that a job's file may give.
 ghost use Rattle.std.specs.Prelude.{◌≡◌};
 ghost use Rattle.std.specs.List.{list_all};
-ghost use Rattle.job_file.specs.Names.{is_file_byte, is_file_name, is_host_byte, is_host, layout_of, are_prepared, are_short, are_own};
+ghost use Rattle.job_file.specs.Names.{is_file_byte, is_file_name, is_host_byte, is_host, layout_of, are_short, are_own};
+ghost use Rattle.job_file.specs.Products.{products_of};
 
 use crate::layout::SessionLayout;
 use crate::limits::{LONGEST_FILE_NAME, LONGEST_HOST};
+use crate::products::Products;
 use circuit_model::CircuitLayout;
 
 fn is_file_byte(byte: u8) -> bool
@@ -68,14 +70,15 @@ pub fn layout_of(version_two: bool, name: &str) -> Option<SessionLayout>
     }
 }
 
-/// Whether this text, direct or prepared, says that products are prepared.
-#[tactic(auto, unfolding(crate::specs::Names::are_prepared))]
-pub fn are_prepared(name: &str) -> Option<bool>
-    ensures { result ≡ are_prepared name.now }
+/// The way to make products that this text tells: direct, prepared or ahead.
+#[tactic(auto, unfolding(crate::specs::Products::products_of))]
+pub fn products_of(name: &str) -> Option<Products>
+    ensures { result ≡ products_of name.now }
 {
     match name {
-        "direct" => Some(false),
-        "prepared" => Some(true),
+        "direct" => Some(Products::Direct),
+        "prepared" => Some(Products::Prepared),
+        "ahead" => Some(Products::Ahead),
         _ => None,
     }
 }

@@ -9,11 +9,12 @@ ghost use Rattle.job_file.specs.Faults.{ring_fault, port_fault};
 ghost use Rattle.job_file.specs.Jobs.{session_view, adversary_view, job_view, HasParties, IsSession, AreSessions, IsJob};
 ghost use Rattle.job_file.specs.declared.field.Field.TheVariants.{RingBits, Parties, Port, Session};
 
-use crate::check::{is_there, is_version_two, own_views_in, prepared_in, short_frames_in};
+use crate::check::{is_there, is_version_two, own_views_in, products_in, short_frames_in};
 use crate::field::Field;
 use crate::job::{Adversary, Job, JobSession};
 use crate::layout::SessionLayout;
 use crate::owner::{JobOwner, owner_in};
+use crate::products::Products;
 use crate::session::fields_or;
 use crate::texts::layout_of;
 use circuit_model::CircuitLayout;
@@ -117,14 +118,14 @@ fn session_of(
     let layout = layout_of(version_two, text_at(table, Field::Layout.text())).unwrap_or(
         SessionLayout::Gates(CircuitLayout::Ring),
     );
-    let prepared = prepared_in(table).unwrap_or(false);
+    let products = products_in(table).unwrap_or(Products::Direct);
     let owners = items_at(table, Field::Owners.text());
     let owners = owners_of(alloc, owners, version_two, number, names)?;
     let readers = groups_of(alloc, items_at(table, Field::Readers.text()), names)?;
     Ok(JobSession {
         circuit,
         layout,
-        prepared,
+        products,
         owners,
         readers,
     })

@@ -21,14 +21,17 @@ use Rattle.party_set.specs.Names.{names_fault, AreNames}
 use Rattle.party_set.proofs.NameFaults.{no_fault_from}
 use Rattle.circuit_model.specs.declared.layout.CircuitLayout.TheVariants.{Bristol, Ring}
 use Rattle.job_file.specs.declared.field.Field.{Field}
-use Rattle.job_file.specs.declared.field.Field.TheVariants.{Version, RingBits, Parties, Formula, Tolerated, Hosts, Port, Frames, Views, Session, Circuit, Layout, Products, Owners, Readers}
+use Rattle.job_file.specs.declared.field.Field.TheVariants.{Version, RingBits, Parties, Formula, Tolerated, Hosts, Port, Frames, Views, Session, Circuit, Layout, Products as ProductsField, Owners, Readers}
 use Rattle.job_file.specs.declared.fault.JobFault.{JobFault}
 use Rattle.job_file.specs.declared.fault.JobFault.TheVariants.{NotToml, Unknown}
 use Rattle.job_file.specs.declared.layout.SessionLayout.{SessionLayout}
 use Rattle.job_file.specs.declared.layout.SessionLayout.TheVariants.{Gates, Expressions}
-use Rattle.job_file.specs.Names.{field_text, field_kind, top_fields, session_fields, is_file_name, is_host, layout_of, are_prepared, are_short, are_own}
+use Rattle.job_file.specs.declared.products.Products.{Products}
+use Rattle.job_file.specs.declared.products.Products.TheVariants.{Direct, Prepared, Ahead}
+use Rattle.job_file.specs.Products.{is_prepared, products_of}
+use Rattle.job_file.specs.Names.{field_text, field_kind, top_fields, session_fields, is_file_name, is_host, layout_of, are_short, are_own}
 use Rattle.job_file.specs.Forms as forms
-use Rattle.job_file.specs.Forms.{JobForm, SessionForm, AdversaryForm, by_formula, by_list, is_version_two, adversary_field, prepared_in, short_frames_in, own_views_in, owner_of, session_form, session_forms, adversary_form, job_form, mask_of}
+use Rattle.job_file.specs.Forms.{JobForm, SessionForm, AdversaryForm, by_formula, by_list, is_version_two, adversary_field, products_in, short_frames_in, own_views_in, owner_of, session_form, session_forms, adversary_form, job_form, mask_of}
 use Rattle.job_file.specs.Faults.{bad_in_lists, owners_fault, is_within, required_fault, optional_fault, unknown_fault, version_fault, fields_fault, ring_fault, parties_fault, groups_fault, adversary_fault, count_fault, hosts_fault, port_fault, frames_fault, views_fault, node_fault, session_fields_fault, session_values_fault, sessions_fault, job_fault, job_in}
 use Rattle.job_laws.specs.Documents.{texts_data, groups_data, member_names, layout_text, choice_data, products_data, session_fields_of, sessions_data, version_data, formula_data, tolerated_data, hosts_data, port_data, frames_data, views_data, document_of_job, owner_text, HasLayout, HasChoice, IsSessionForm, AreSessionForms, HasGroups, AreHosts, HasPeers, IsJobForm, DocumentsSayTheirJobs}
 use Rattle.job_laws.proofs.MemberNames.{good_lists, masks_back}
@@ -111,49 +114,61 @@ layout_back (by_list masks) (Gates Bristol) h = refl
 layout_back (by_list masks) (Gates Ring) h = refl
 layout_back (by_list masks) Expressions h = refl
 
-products_known : (adversary : AdversaryForm) (prepared : Bool) → HasChoice adversary prepared
-    → IfSome (products_data prepared) (λ d. is_known (map field_text (session_fields (two_of adversary))) (field_text Products) ≡ true)
+products_known : (adversary : AdversaryForm) (products : Products) → HasChoice adversary (is_prepared products)
+    → IfSome (products_data products) (λ d. is_known (map field_text (session_fields (two_of adversary))) (field_text ProductsField) ≡ true)
 unfolding field_text
-products_known (by_formula text) true h = absurd h
-products_known (by_formula text) false h = tt
-products_known (by_list masks) true h = refl
-products_known (by_list masks) false h = tt
+products_known adversary Direct h = tt
+products_known (by_formula text) Prepared h = absurd h
+products_known (by_formula text) Ahead h = absurd h
+products_known (by_list masks) Prepared h = refl
+products_known (by_list masks) Ahead h = refl
+
+products_kind : (products : Products) → IfSome (products_data products) (λ d. is_of_kind kinds.Text d ≡ true)
+unfolding is_of_kind
+products_kind Direct = tt
+products_kind Prepared = refl
+products_kind Ahead = refl
 
 choice_kind : (name : List ℕ) (told : Bool) → IfSome (choice_data name told) (λ d. is_of_kind kinds.Text d ≡ true)
 unfolding is_of_kind
 choice_kind name true = refl
 choice_kind name false = tt
 
-products_back : (prepared : Bool) (ms : Members) → value_of Products ms ≡ products_data prepared → prepared_in ms ≡ Some prepared
-unfolding prepared_in are_prepared
-products_back true ms at = ap₂ (λ told text. cond told (are_prepared text) (Some false)) (there Products ms _ at) (text_is Products ms (codes "prepared") at)
-products_back false ms at = ap (λ told. cond told (are_prepared (forms.text Products ms)) (Some false)) (not_there Products ms at)
+products_told : (name : List ℕ) (ms : Members) → value_of ProductsField ms ≡ Some (string name) → products_in ms ≡ products_of name
+unfolding products_in
+products_told name ms at = ap₂ (λ told text. cond told (products_of text) (Some Direct)) (there ProductsField ms _ at) (text_is ProductsField ms name at)
+
+products_back : (products : Products) (ms : Members) → value_of ProductsField ms ≡ products_data products → products_in ms ≡ Some products
+unfolding products_in products_of
+products_back Direct ms at = ap (λ told. cond told (products_of (forms.text ProductsField ms)) (Some Direct)) (not_there ProductsField ms at)
+products_back Prepared ms at = products_told (codes "prepared") ms at
+products_back Ahead ms at = products_told (codes "ahead") ms at
 
 module _ (names : List (List ℕ)) (are : AreNames names) (adversary : AdversaryForm) (n : ℕ) (early : n ≤ 16) (s : SessionForm) (is : IsSessionForm (length names) adversary n s) where
   abbrev ms : Members
   ms = session_fields_of names s
 
   at_circuit : value_of Circuit ms ≡ Some (string s.circuit)
-  at_circuit = table_of.at_circuit (string s.circuit) (string (layout_text s.layout)) (texts_data (map (owner_text names) s.owners)) (products_data s.prepared) (groups_data names s.readers)
+  at_circuit = table_of.at_circuit (string s.circuit) (string (layout_text s.layout)) (texts_data (map (owner_text names) s.owners)) (products_data s.products) (groups_data names s.readers)
 
   at_layout : value_of Layout ms ≡ Some (string (layout_text s.layout))
-  at_layout = table_of.at_layout (string s.circuit) (string (layout_text s.layout)) (texts_data (map (owner_text names) s.owners)) (products_data s.prepared) (groups_data names s.readers)
+  at_layout = table_of.at_layout (string s.circuit) (string (layout_text s.layout)) (texts_data (map (owner_text names) s.owners)) (products_data s.products) (groups_data names s.readers)
 
   at_owners : value_of Owners ms ≡ Some (texts_data (map (owner_text names) s.owners))
-  at_owners = table_of.at_owners (string s.circuit) (string (layout_text s.layout)) (texts_data (map (owner_text names) s.owners)) (products_data s.prepared) (groups_data names s.readers)
+  at_owners = table_of.at_owners (string s.circuit) (string (layout_text s.layout)) (texts_data (map (owner_text names) s.owners)) (products_data s.products) (groups_data names s.readers)
 
-  at_products : value_of Products ms ≡ products_data s.prepared
-  at_products = table_of.at_products (string s.circuit) (string (layout_text s.layout)) (texts_data (map (owner_text names) s.owners)) (products_data s.prepared) (groups_data names s.readers)
+  at_products : value_of ProductsField ms ≡ products_data s.products
+  at_products = table_of.at_products (string s.circuit) (string (layout_text s.layout)) (texts_data (map (owner_text names) s.owners)) (products_data s.products) (groups_data names s.readers)
 
   at_readers : value_of Readers ms ≡ Some (groups_data names s.readers)
-  at_readers = table_of.at_readers (string s.circuit) (string (layout_text s.layout)) (texts_data (map (owner_text names) s.owners)) (products_data s.prepared) (groups_data names s.readers)
+  at_readers = table_of.at_readers (string s.circuit) (string (layout_text s.layout)) (texts_data (map (owner_text names) s.owners)) (products_data s.products) (groups_data names s.readers)
 
   fields_pass : session_fields_fault (two_of adversary) n ms ≡ None
   unfolding session_fields_fault unknown_fault field_text field_kind is_of_kind
-  fields_pass = then_none (no_map _ (table_of.session_known (string s.circuit) (string (layout_text s.layout)) (texts_data (map (owner_text names) s.owners)) (products_data s.prepared) (groups_data names s.readers) (map field_text (session_fields (two_of adversary))) refl refl refl (products_known adversary s.prepared is.products) refl))
+  fields_pass = then_none (no_map _ (table_of.session_known (string s.circuit) (string (layout_text s.layout)) (texts_data (map (owner_text names) s.owners)) (products_data s.products) (groups_data names s.readers) (map field_text (session_fields (two_of adversary))) refl refl refl (products_known adversary s.products is.products) refl))
       (then_none (required (Some n) Circuit ms _ at_circuit refl)
       (then_none (required (Some n) Layout ms _ at_layout refl)
-      (then_none (optional (Some n) Products ms _ at_products (choice_kind (codes "prepared") s.prepared))
+      (then_none (optional (Some n) ProductsField ms _ at_products (products_kind s.products))
       (then_none (required (Some n) Owners ms _ at_owners (are_texts (map (owner_text names) s.owners)))
       (then_none (required (Some n) Readers ms _ at_readers (are_groups names s.readers))
       refl)))))
@@ -161,8 +176,8 @@ module _ (names : List (List ℕ)) (are : AreNames names) (adversary : Adversary
   layout_is : layout_of (two_of adversary) (forms.text Layout ms) ≡ Some s.layout
   layout_is = ap (layout_of (two_of adversary)) (text_is Layout ms (layout_text s.layout) at_layout) ∙ layout_back adversary s.layout is.layout
 
-  products_are : prepared_in ms ≡ Some s.prepared
-  products_are = products_back s.prepared ms at_products
+  products_are : products_in ms ≡ Some s.products
+  products_are = products_back s.products ms at_products
 
   values_pass : session_values_fault (two_of adversary) names n ms ≡ None
   unfolding session_values_fault
@@ -173,15 +188,15 @@ module _ (names : List (List ℕ)) (are : AreNames names) (adversary : Adversary
       (then_none (no_map _ (ap (bad_in_lists names 0) (lists_are Readers ms names s.readers at_readers) ∙ good_lists names are 0 s.readers))
       refl))))
 
-  same_session : (a b : SessionForm) → a.circuit ≡ b.circuit → a.layout ≡ b.layout → a.prepared ≡ b.prepared → a.owners ≡ b.owners → a.readers ≡ b.readers → a ≡ b
-  same_session a b c l p o r i = record { circuit = c i; layout = l i; prepared = p i; owners = o i; readers = r i }
+  same_session : (a b : SessionForm) → a.circuit ≡ b.circuit → a.layout ≡ b.layout → a.products ≡ b.products → a.owners ≡ b.owners → a.readers ≡ b.readers → a ≡ b
+  same_session a b c l p o r i = record { circuit = c i; layout = l i; products = p i; owners = o i; readers = r i }
 
   session_back : session_form (two_of adversary) names n ms ≡ s
   unfolding session_form
   session_back = same_session _ s
       (text_is Circuit ms s.circuit at_circuit)
       (ap (λ o. unwrap_or o (Gates Ring)) layout_is)
-      (ap (λ o. unwrap_or o false) products_are)
+      (ap (λ o. unwrap_or o Direct) products_are)
       (ap (map (owner_of (two_of adversary) names n)) (texts_are Owners ms (map (owner_text names) s.owners) at_owners) ∙ owners_back names are n early adversary s.owners is.owners is.carries)
       (ap (map (mask_of names)) (lists_are Readers ms names s.readers at_readers) ∙ masks_back names are s.readers is.readers)
 
@@ -538,10 +553,15 @@ module _ (node : Bool) (job : JobForm) (is : IsJobForm node job) where
   choice_plain n name true = wider 0 n _ (omega arith) (string_plain name)
   choice_plain n name false = tt
 
+  products_plain : (products : Products) → IfSome (products_data products) (IsPlain 2)
+  products_plain Direct = tt
+  products_plain Prepared = wider 0 2 _ (omega arith) (string_plain (codes "prepared"))
+  products_plain Ahead = wider 0 2 _ (omega arith) (string_plain (codes "ahead"))
+
   session_plain : (s : SessionForm) → IsPlain 3 (table (session_fields_of job.names s))
   session_plain s =
-      let all = table_of.session_plain (string s.circuit) (string (layout_text s.layout)) (texts_data (map (owner_text job.names) s.owners)) (products_data s.prepared) (groups_data job.names s.readers) (wider 0 2 _ (omega arith) (string_plain s.circuit)) (wider 0 2 _ (omega arith) (string_plain (layout_text s.layout)))
-      (wider 1 2 _ (omega arith) (texts_plain (map (owner_text job.names) s.owners))) (choice_plain 2 (codes "prepared") s.prepared) (groups_plain job.names s.readers) in
+      let all = table_of.session_plain (string s.circuit) (string (layout_text s.layout)) (texts_data (map (owner_text job.names) s.owners)) (products_data s.products) (groups_data job.names s.readers) (wider 0 2 _ (omega arith) (string_plain s.circuit)) (wider 0 2 _ (omega arith) (string_plain (layout_text s.layout)))
+      (wider 1 2 _ (omega arith) (texts_plain (map (owner_text job.names) s.owners))) (products_plain s.products) (groups_plain job.names s.readers) in
       record { deep = (let deep = all.deep in omega arith); dates = all.dates; sorted = all.sorted }
 
   pub read_back : (text : List ℕ) → IsUtf8 text → IsDocumentText false fields text → job_in node text ≡ Ok job

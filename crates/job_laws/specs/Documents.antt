@@ -9,13 +9,16 @@ use Rattle.party_set.specs.Parties.{has_party}
 use Rattle.party_set.specs.Names.{name_at, AreNames}
 use Rattle.circuit_model.specs.declared.layout.CircuitLayout.TheVariants.{Bristol, Ring}
 use Rattle.job_file.specs.declared.field.Field.{Field}
-use Rattle.job_file.specs.declared.field.Field.TheVariants.{Version, RingBits, Parties, Formula, Tolerated, Hosts, Port, Frames, Views, Session, Circuit, Layout, Products, Owners, Readers}
+use Rattle.job_file.specs.declared.field.Field.TheVariants.{Version, RingBits, Parties, Formula, Tolerated, Hosts, Port, Frames, Views, Session, Circuit, Layout, Products as ProductsField, Owners, Readers}
 use Rattle.job_file.specs.declared.layout.SessionLayout.{SessionLayout}
 use Rattle.job_file.specs.declared.layout.SessionLayout.TheVariants.{Gates, Expressions}
 use Rattle.job_file.specs.declared.owner.JobOwner.{JobOwner}
 use Rattle.job_file.specs.declared.owner.JobOwner.TheVariants.{Party, Carried}
+use Rattle.job_file.specs.declared.products.Products.{Products}
+use Rattle.job_file.specs.declared.products.Products.TheVariants.{Direct, Prepared, Ahead}
 use Rattle.job_file.specs.Names.{field_text, is_file_name, is_host}
 use Rattle.job_file.specs.Owners.{IsOwner}
+use Rattle.job_file.specs.Products.{is_prepared}
 use Rattle.job_file.specs.Forms.{JobForm, SessionForm, AdversaryForm, by_formula, by_list}
 use Rattle.job_file.specs.Faults.{job_in}
 use Rattle.job_file.specs.declared.limits.TheConstants.{LAST_PORT, MOST_TOLERATED}
@@ -58,9 +61,11 @@ abbrev pub choice_data : List ℕ → Bool → Option Data
 choice_data name true = Some (string name)
 choice_data name false = None
 
--- the text that tells that products are prepared; none tells that they are direct
-abbrev pub products_data : Bool → Option Data
-products_data prepared = choice_data (codes "prepared") prepared
+-- the text that tells in which way products are prepared; none tells that they are direct
+abbrev pub products_data : Products → Option Data
+products_data Direct = None
+products_data Prepared = Some (string (codes "prepared"))
+products_data Ahead = Some (string (codes "ahead"))
 
 -- how an owner is named: a party by its name, a carried value by its session and its number there
 abbrev pub owner_text : List (List ℕ) → JobOwner → List ℕ
@@ -73,7 +78,7 @@ session_fields_of names s =
     with_field Circuit (Some (string s.circuit))
     (with_field Layout (Some (string (layout_text s.layout)))
     (with_field Owners (Some (texts_data (map (owner_text names) s.owners)))
-    (with_field Products (products_data s.prepared)
+    (with_field ProductsField (products_data s.products)
     (with_field Readers (Some (groups_data names s.readers)) no_members))))
 
 -- the tables of sessions
@@ -146,7 +151,7 @@ HasOwner _ _ = Unit {0}
 pub record IsSessionForm (n : ℕ) (adversary : AdversaryForm) (number : ℕ) (s : SessionForm) : Type 0 where
   pub circuit : is_file_name s.circuit ≡ true
   pub layout : HasLayout adversary s.layout
-  pub products : HasChoice adversary s.prepared
+  pub products : HasChoice adversary (is_prepared s.products)
   pub owners : AllByRecursion (IsOwner n number) s.owners
   pub carries : AllByRecursion (HasOwner adversary) s.owners
   pub readers : AllByRecursion (λ mask. mask < 2 ^ n) s.readers
