@@ -30,11 +30,7 @@ pub(crate) fn list_kinds(
 }
 
 // The masks of the products, and their products.
-fn push_prepared(
-    wiring: &Wiring,
-    ahead: bool,
-    kinds: &mut Vec<SlotKind>,
-) -> Result<(), AllocError>
+fn push_prepared(wiring: &Wiring, ahead: bool, kinds: &mut Vec<SlotKind>) -> Result<(), AllocError>
     requires { IsWiring wiring.now }
     ensures { OnOk result (map slot_of_kind kinds.new.items
         ≡ map slot_of_kind kinds.old.items ++ prepared_slots (prepared_in wiring.now ahead)) }
