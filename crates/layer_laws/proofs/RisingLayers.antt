@@ -1,8 +1,8 @@
 -- Where gates stand by layers, each batch begins in a later layer than the one before it.
-use Rattle.std.proofs.Common.{◌≡◌, ℕ, zero, suc, ◌+◌, ◌-◌, ◌*◌, ◌<◌, ◌≤◌, ◌⊎◌, Bool, true, false, not, ◌&&◌, ◌||◌, nat_eq, if◌then◌else◌, List, [], ◌∷◌, length, inl, inr, refl, sym, ap, ◌∙◌, arith}
+use Rattle.std.proofs.Common.{◌≡◌, ℕ, zero, suc, ◌+◌, ◌-◌, ◌*◌, ◌/◌, ◌<◌, ◌≤◌, ◌⊎◌, Bool, true, false, not, ◌&&◌, ◌||◌, nat_eq, nat_le, min, if◌then◌else◌, List, [], ◌∷◌, length, inl, inr, refl, sym, ap, ◌∙◌, arith}
 use Rattle.std.specs.List.{list_any}
-use Rattle.std.proofs.lemmas.Bool.{cases_Bool, cases_eq, cases_lt, cond-true, cond-false, and_parts, eq-eqb, eqb-true, or_cases, or_left, false≢true}
-use Rattle.std.proofs.Math.Nat.{le-max_left, le-max_right}
+use Rattle.std.proofs.lemmas.Bool.{cases_Bool, cases_eq, cases_lt, cond-true, cond-false, cond_both, and_parts, eq-eqb, eqb-true, le-leb, leb-true, lt-leb, or_cases, or_left, false≢true}
+use Rattle.std.proofs.Math.Nat.{le-max_left, le-max_right, le-min, min-le_left, min-le_right}
 use Rattle.list_laws.specs.Lists.{only_if, total}
 use Rattle.circuit_model.specs.Circuits.{is_product}
 use Rattle.circuit_model.specs.Netlists.{read_by}
@@ -10,16 +10,16 @@ use Rattle.job_session.specs.declared.side.Side.{Side}
 use Rattle.job_session.specs.declared.side.Side.TheVariants.{First, Second}
 use Rattle.job_session.specs.Sessions.{Session, Slot, gate, is_prepared, mask_wire, operand, product_wire, session_slot, session_slots}
 use Rattle.job_session.specs.Sessions.Slot.{Input, At_gate, Output, Mask, Mask_product, Masked, Kept}
-use Rattle.job_session.specs.SlotNumbers.{first_of_gate, prepared_before, session_slot_number}
+use Rattle.job_session.specs.SlotNumbers.{first_of_gate, first_of_masks, mask_product_number, prepared_before, session_slot_number}
 use Rattle.job_session.specs.SoundSessions.{IsWired, Inside}
 use Rattle.job_session.specs.Counts.{prepared_products, products}
 use Rattle.job_session.specs.KeptWires.{greatest, sets_in, slot_sets}
 use Rattle.job_session.specs.Batches.{batch, batches, completes, is_join, reads_early, sets_early, slot_completes, waits_for}
-use Rattle.job_session.proofs.SessionSlots.{all_prepared, gate_rises, more_before, none_before, none_prepared, number_within, one_more, slot_kinds, slot_there, slots_are_numbered}
+use Rattle.job_session.proofs.SessionSlots.{all_prepared, gate_rises, masks_before_product, more_before, none_before, none_prepared, number_within, one_more, product_before_inputs, slot_kinds, slot_there, slots_are_numbered}
 use Rattle.job_session.proofs.BatchOrder.{batch_within, begins_waiting, rising}
 use Rattle.job_session.proofs.GateOrder.{operand_read}
 use Rattle.job_session.proofs.KeptRows.{one_wire}
-use Rattle.layer_laws.specs.Layers.{most, product, products_to, layer, depth, JoinsLast, StandsByLayers}
+use Rattle.layer_laws.specs.Layers.{most, preparing_batches, product, products_to, layer, depth, JoinsLast, StandsByLayers}
 
 -- one of a list passes both tests
 any_both : (f : ℕ → Bool) (vs : List ℕ) → list_any f vs ≡ true → (v : ℕ) × (list_any (nat_eq v) vs ≡ true) × (f v ≡ true)
@@ -70,15 +70,23 @@ module _ (s : Session) (wired : IsWired s) (by_layers : StandsByLayers s) (joins
   abbrev all : ℕ
   all = prepared_before s count
 
-  -- the layer of a slot: what is prepared comes first, product by product, then the inputs, the gates and the outputs
+  -- the layer of the masks of a product, and how many layers stand before that of the inputs: in turn one for each product,
+  -- and ahead one of all masks
+  abbrev mask_rank : ℕ → ℕ
+  mask_rank t = if s.ahead then 0 else prepared_before s t
+
+  abbrev prior : ℕ
+  prior = if s.ahead then min 1 all else all
+
+  -- the layer of a slot: what is prepared comes first, then the inputs, the gates and the outputs
   abbrev rank_of : Slot → ℕ
-  rank_of (Mask t side) = prepared_before s t
-  rank_of (Mask_product t) = suc (prepared_before s t)
-  rank_of (Input v) = all
-  rank_of (Masked t side) = suc (all + layer s t)
-  rank_of (At_gate t) = suc (all + layer s t)
-  rank_of (Output o) = suc (all + depth s)
-  rank_of (Kept o) = suc (all + depth s)
+  rank_of (Mask t side) = mask_rank t
+  rank_of (Mask_product t) = suc (mask_rank t)
+  rank_of (Input v) = prior
+  rank_of (Masked t side) = suc (prior + layer s t)
+  rank_of (At_gate t) = suc (prior + layer s t)
+  rank_of (Output o) = suc (prior + depth s)
+  rank_of (Kept o) = suc (prior + depth s)
 
   abbrev rank : ℕ → ℕ
   rank k = rank_of (session_slot s k)
@@ -96,19 +104,57 @@ module _ (s : Session) (wired : IsWired s) (by_layers : StandsByLayers s) (joins
   before_all : (t : ℕ) → t < count → is_prepared s t ≡ true → prepared_before s t < all
   before_all t l e = (let more = more_before s t count l in let one = one_more s t e in omega (arith, more, one))
 
+  before_prior : (t : ℕ) → t < count → is_prepared s t ≡ true → mask_rank t < prior
+  before_prior t l e = by_order s.ahead
+    where
+      by_order : (early : Bool) → (if early then 0 else prepared_before s t) < (if early then min 1 all else all)
+      by_order true = le-min {k = 1} {a = 1} {b = all} (omega arith) (let less = before_all t l e in omega (arith, less))
+      by_order false = before_all t l e
+
+  -- all that is prepared stands before the inputs
+  prepared_early : (t : ℕ) → t < count → is_prepared s t ≡ true → (first_of_masks s t + 1 < 3 * all) × (mask_product_number s t < 3 * all)
+  prepared_early t l e = (let masks = masks_before_product s t l e in let product = product_before_inputs s t l e in (omega (arith, masks, product), product))
+
   -- ---- ranks rise
 
+  -- the layer of a slot of masks by its number, where masks come ahead or not
+  abbrev rank_at : Bool → ℕ → ℕ
+  rank_at true n = if nat_le (2 * all) n then 1 else 0
+  rank_at false n = (n + 1) / 3
+
+  rank_rises : (early : Bool) (n m : ℕ) → n ≤ m → rank_at early n ≤ rank_at early m
+  rank_rises true n m le = elim (cases_Bool (nat_le (2 * all) n)) [
+    | inl from ↦
+        let later = cond-true {A = ℕ} (nat_le (2 * all) m) 1 0 (le-leb (2 * all) m (let less = leb-true (2 * all) n from in omega (arith, less, le))) in
+        let one = cond-true {A = ℕ} (nat_le (2 * all) n) 1 0 from in
+        omega (arith, later, one)
+    | inr to ↦ (let none = cond-false {A = ℕ} (nat_le (2 * all) n) 1 0 to in omega (arith, none))
+  ]
+  rank_rises false n m le = omega (arith, le)
+
+  rank_within : (early : Bool) (n : ℕ) → n < 3 * all → rank_at early n ≤ (if early then min 1 all else all)
+  rank_within true n l =
+      let some = le-min {k = 1} {a = 1} {b = all} (omega arith) (omega (arith, l)) in
+      cond_both (nat_le (2 * all) n) 1 0 (λ r. r ≤ min 1 all) (λ e. some) (λ e. omega arith)
+  rank_within false n l = omega (arith, l)
+
+  mask_rank_at : (t n place : ℕ) → t < count → is_prepared s t ≡ true → place < 2 → n ≡ first_of_masks s t + place → mask_rank t ≡ rank_at s.ahead n
+  mask_rank_at t n place l e few = by_order s.ahead
+    where
+      by_order : (early : Bool) → n ≡ (if early then 2 * prepared_before s t else 3 * prepared_before s t) + place → (if early then 0 else prepared_before s t) ≡ rank_at early n
+      by_order true is = sym (cond-false {A = ℕ} (nat_le (2 * all) n) 1 0 (lt-leb (2 * all) n (let less = before_all t l e in omega (arith, less, is, few))))
+      by_order false is = omega (arith, is, few)
+
+  product_rank_at : (t : ℕ) → suc (mask_rank t) ≡ rank_at s.ahead (mask_product_number s t)
+  product_rank_at t = by_order s.ahead
+    where
+      by_order : (early : Bool) → suc (if early then 0 else prepared_before s t) ≡ rank_at early (if early then 2 * all + prepared_before s t else 3 * prepared_before s t + 2)
+      by_order true = sym (cond-true {A = ℕ} (nat_le (2 * all) (2 * all + prepared_before s t)) 1 0 (le-leb (2 * all) (2 * all + prepared_before s t) (omega arith)))
+      by_order false = omega arith
+
   -- a slot of masks has such a number and rank
-  record IsOfMask (n r : ℕ) : Type 0 where
-    before : ℕ
-    place : ℕ
-    late : ℕ
-    within : before < all
-    few : place < 3
-    from : 2 * late ≤ place
-    to : place ≤ late + 1
-    number : n ≡ 3 * before + place
-    is : r ≡ before + late
+  abbrev IsOfMask : ℕ → ℕ → Type 0
+  IsOfMask n r = (n < 3 * all) × (r ≡ rank_at s.ahead n)
 
   -- one of a gate
   record IsOfGate (n r : ℕ) : Type 0 where
@@ -116,52 +162,22 @@ module _ (s : Session) (wired : IsWired s) (by_layers : StandsByLayers s) (joins
     there : gate_of < count
     from : first_of_gate s gate_of ≤ n
     to : n ≤ first_of_gate s gate_of + 2 * (if is_prepared s gate_of then 1 else 0)
-    is : r ≡ suc (all + layer s gate_of)
+    is : r ≡ suc (prior + layer s gate_of)
 
   -- an input slot, and an output slot
   abbrev IsOfInput : ℕ → ℕ → Type 0
-  IsOfInput n r = (3 * all ≤ n) × (n < first_of_gate s 0) × (r ≡ all)
+  IsOfInput n r = (3 * all ≤ n) × (n < first_of_gate s 0) × (r ≡ prior)
 
   abbrev IsOfOutput : ℕ → ℕ → Type 0
-  IsOfOutput n r = (first_of_gate s count ≤ n) × (r ≡ suc (all + depth s))
+  IsOfOutput n r = (first_of_gate s count ≤ n) × (r ≡ suc (prior + depth s))
 
   abbrev Stands : ℕ → ℕ → Type 0
   Stands n r = (IsOfMask n r ⊎ IsOfInput n r) ⊎ (IsOfGate n r ⊎ IsOfOutput n r)
 
   stands : (z : Slot) → Inside s z → Stands (session_slot_number s z) (rank_of z)
-  stands (Mask t First) i = inl (inl (record {
-    before = prepared_before s t;
-    place = 0;
-    late = 0;
-    within = before_all t i.0 i.1;
-    few = omega arith;
-    from = omega arith;
-    to = omega arith;
-    number = omega arith;
-    is = omega arith;
-  }))
-  stands (Mask t Second) i = inl (inl (record {
-    before = prepared_before s t;
-    place = 1;
-    late = 0;
-    within = before_all t i.0 i.1;
-    few = omega arith;
-    from = omega arith;
-    to = omega arith;
-    number = omega arith;
-    is = omega arith;
-  }))
-  stands (Mask_product t) i = inl (inl (record {
-    before = prepared_before s t;
-    place = 2;
-    late = 1;
-    within = before_all t i.0 i.1;
-    few = omega arith;
-    from = omega arith;
-    to = omega arith;
-    number = omega arith;
-    is = omega arith;
-  }))
+  stands (Mask t First) i = inl (inl (let early = prepared_early t i.0 i.1 in omega (arith, early.0), mask_rank_at t (first_of_masks s t) 0 i.0 i.1 (omega arith) (omega arith)))
+  stands (Mask t Second) i = inl (inl ((prepared_early t i.0 i.1).0, mask_rank_at t (first_of_masks s t + 1) 1 i.0 i.1 (omega arith) refl))
+  stands (Mask_product t) i = inl (inl ((prepared_early t i.0 i.1).1, product_rank_at t))
   stands (Input v) l = inl (inr (omega arith, omega (arith, l), refl))
   stands (Masked t First) i = inr (inl (record { gate_of = t; there = i.0; from = omega arith; to = omega arith; is = refl }))
   stands (Masked t Second) i = inr (inl (record { gate_of = t; there = i.0; from = omega arith; to = (let one = one_more s t i.1 in omega (arith, one)); is = refl }))
@@ -170,22 +186,22 @@ module _ (s : Session) (wired : IsWired s) (by_layers : StandsByLayers s) (joins
   stands (Kept o) l = inr (inr (omega arith, refl))
 
   rise : (n m r q : ℕ) → Stands n r → Stands m q → n ≤ m → r ≤ q
-  rise n m r q (inl (inl a)) (inl (inl b)) le = omega (arith, le, a.number, b.number, a.few, b.few, a.from, a.to, b.from, b.to, a.is, b.is)
-  rise n m r q (inl (inl a)) (inl (inr b)) le = omega (arith, a.within, a.from, a.few, a.is, b.2)
-  rise n m r q (inl (inl a)) (inr (inl b)) le = omega (arith, a.within, a.from, a.few, a.is, b.is)
-  rise n m r q (inl (inl a)) (inr (inr b)) le = omega (arith, a.within, a.from, a.few, a.is, b.1)
-  rise n m r q (inl (inr a)) (inl (inl b)) le = absurd (omega (arith, le, a.0, b.number, b.within, b.few))
+  rise n m r q (inl (inl a)) (inl (inl b)) le = (let rises = rank_rises s.ahead n m le in omega (arith, a.1, b.1, rises))
+  rise n m r q (inl (inl a)) (inl (inr b)) le = (let within = rank_within s.ahead n a.0 in omega (arith, within, a.1, b.2))
+  rise n m r q (inl (inl a)) (inr (inl b)) le = (let within = rank_within s.ahead n a.0 in omega (arith, within, a.1, b.is))
+  rise n m r q (inl (inl a)) (inr (inr b)) le = (let within = rank_within s.ahead n a.0 in omega (arith, within, a.1, b.1))
+  rise n m r q (inl (inr a)) (inl (inl b)) le = absurd (omega (arith, le, a.0, b.0))
   rise n m r q (inl (inr a)) (inl (inr b)) le = omega (arith, a.2, b.2)
   rise n m r q (inl (inr a)) (inr (inl b)) le = omega (arith, a.2, b.is)
   rise n m r q (inl (inr a)) (inr (inr b)) le = omega (arith, a.2, b.1)
-  rise n m r q (inr (inl a)) (inl (inl b)) le = absurd (omega (arith, le, a.from, b.number, b.within, b.few))
+  rise n m r q (inr (inl a)) (inl (inl b)) le = absurd (omega (arith, le, a.from, b.0))
   rise n m r q (inr (inl a)) (inl (inr b)) le = absurd (omega (arith, le, a.from, b.1))
   rise n m r q (inr (inl a)) (inr (inl b)) le = elim (cases_lt b.gate_of a.gate_of) [
     | inl back ↦ absurd (let more = more_before s b.gate_of a.gate_of back in omega (arith, le, a.from, b.to, more, back))
     | inr on ↦ let later = by_layers a.gate_of b.gate_of on b.there in omega (arith, a.is, b.is, later)
   ]
   rise n m r q (inr (inl a)) (inr (inr b)) le = (let deep = within_depth a.gate_of a.there in omega (arith, a.is, b.1, deep))
-  rise n m r q (inr (inr a)) (inl (inl b)) le = absurd (omega (arith, le, a.0, b.number, b.within, b.few))
+  rise n m r q (inr (inr a)) (inl (inl b)) le = absurd (omega (arith, le, a.0, b.0))
   rise n m r q (inr (inr a)) (inl (inr b)) le = absurd (omega (arith, le, a.0, b.1))
   rise n m r q (inr (inr a)) (inr (inl b)) le = absurd (let more = more_before s b.gate_of count b.there in omega (arith, le, a.0, b.to, more, b.there))
   rise n m r q (inr (inr a)) (inr (inr b)) le = omega (arith, a.1, b.1)
@@ -196,11 +212,11 @@ module _ (s : Session) (wired : IsWired s) (by_layers : StandsByLayers s) (joins
   ranks_rise : (j k : ℕ) → j ≤ k → k < session_slots s → rank j ≤ rank k
   ranks_rise j k le lk = rise j k (rank j) (rank k) (stands_at j (omega (arith, le, lk))) (stands_at k lk) le
 
-  rank_most : (k : ℕ) → k < session_slots s → rank k ≤ suc (all + depth s)
+  rank_most : (k : ℕ) → k < session_slots s → rank k ≤ suc (prior + depth s)
   rank_most k l = most_of (stands_at k l)
     where
-      most_of : {n r : ℕ} → Stands n r → r ≤ suc (all + depth s)
-      most_of (inl (inl a)) = omega (arith, a.within, a.from, a.few, a.is)
+      most_of : {n r : ℕ} → Stands n r → r ≤ suc (prior + depth s)
+      most_of {n = n} (inl (inl a)) = (let within = rank_within s.ahead n a.0 in omega (arith, within, a.1))
       most_of (inl (inr a)) = omega (arith, a.2)
       most_of (inr (inl a)) = (let deep = within_depth a.gate_of a.there in omega (arith, a.is, deep))
       most_of (inr (inr a)) = omega (arith, a.1)
@@ -291,17 +307,17 @@ module _ (s : Session) (wired : IsWired s) (by_layers : StandsByLayers s) (joins
       let mask = masks_read t w r in
       let place = mask_is u side in
       let same : u ≡ t = omega (arith, is, mask.1, mask.2, place.0, place.1) in
-      let at = ap (λ g. prepared_before s g) same in
+      let at = ap mask_rank same in
       omega (arith, at)
-  reads_rise (Mask u side) (Masked t _) w i j b c r = (let less = before_all u i.0 i.1 in omega (arith, less))
-  reads_rise (Mask u side) (At_gate t) w i j b c r = (let less = before_all u i.0 i.1 in omega (arith, less))
-  reads_rise (Mask u side) (Output o) w i j b c r = (let less = before_all u i.0 i.1 in omega (arith, less))
-  reads_rise (Mask u side) (Kept o) w i j b c r = (let less = before_all u i.0 i.1 in omega (arith, less))
+  reads_rise (Mask u side) (Masked t _) w i j b c r = (let less = before_prior u i.0 i.1 in omega (arith, less))
+  reads_rise (Mask u side) (At_gate t) w i j b c r = (let less = before_prior u i.0 i.1 in omega (arith, less))
+  reads_rise (Mask u side) (Output o) w i j b c r = (let less = before_prior u i.0 i.1 in omega (arith, less))
+  reads_rise (Mask u side) (Kept o) w i j b c r = (let less = before_prior u i.0 i.1 in omega (arith, less))
   reads_rise (Mask_product u) (Mask_product t) w i j b c r = absurd (let is = one_wire (product_wire s u) w c in let mask = masks_read t w r in omega (arith, is, mask.1, mask.2))
-  reads_rise (Mask_product u) (Masked t side) w i j b c r = (let less = before_all u i.0 i.1 in omega (arith, less))
-  reads_rise (Mask_product u) (At_gate t) w i j b c r = (let less = before_all u i.0 i.1 in omega (arith, less))
-  reads_rise (Mask_product u) (Output o) w i j b c r = (let less = before_all u i.0 i.1 in omega (arith, less))
-  reads_rise (Mask_product u) (Kept o) w i j b c r = (let less = before_all u i.0 i.1 in omega (arith, less))
+  reads_rise (Mask_product u) (Masked t side) w i j b c r = (let less = before_prior u i.0 i.1 in omega (arith, less))
+  reads_rise (Mask_product u) (At_gate t) w i j b c r = (let less = before_prior u i.0 i.1 in omega (arith, less))
+  reads_rise (Mask_product u) (Output o) w i j b c r = (let less = before_prior u i.0 i.1 in omega (arith, less))
+  reads_rise (Mask_product u) (Kept o) w i j b c r = (let less = before_prior u i.0 i.1 in omega (arith, less))
   reads_rise (At_gate u) (Mask_product t) w i j b c r = absurd (let made = gate_completes u w c in let mask = masks_read t w r in omega (arith, made.1, mask.2, wired.output u i))
   reads_rise (At_gate u) (Masked t side) w i j b c r =
       let made = gate_completes u w c in
@@ -337,9 +353,9 @@ module _ (s : Session) (wired : IsWired s) (by_layers : StandsByLayers s) (joins
   join_rises (At_gate u) (Kept o) i j b e f = absurd (false≢true f)
   join_rises (At_gate u) (Masked t side) i j b e f = absurd (false≢true f)
   join_rises (At_gate u) (Input v) i j b e f = absurd (omega (arith, b, j))
-  join_rises (At_gate u) (Mask t First) i j b e f = absurd (let less = before_all t j.0 j.1 in omega (arith, b, less))
-  join_rises (At_gate u) (Mask t Second) i j b e f = absurd (let less = before_all t j.0 j.1 in omega (arith, b, less))
-  join_rises (At_gate u) (Mask_product t) i j b e f = absurd (let less = before_all t j.0 j.1 in omega (arith, b, less))
+  join_rises (At_gate u) (Mask t First) i j b e f = absurd (let early = prepared_early t j.0 j.1 in omega (arith, b, early.0, early.1))
+  join_rises (At_gate u) (Mask t Second) i j b e f = absurd (let early = prepared_early t j.0 j.1 in omega (arith, b, early.0, early.1))
+  join_rises (At_gate u) (Mask_product t) i j b e f = absurd (let early = prepared_early t j.0 j.1 in omega (arith, b, early.0, early.1))
   join_rises (At_gate u) (At_gate t) i j b e f =
       let multiplies = is_product (gate s t).operation in
       let none : is_prepared s t ≡ false = not_false (is_prepared s t) (and_parts (not (is_prepared s t)) true f).0 in
@@ -382,10 +398,10 @@ module _ (s : Session) (wired : IsWired s) (by_layers : StandsByLayers s) (joins
       ]
 
   -- each batch begins in a later layer than the one before it
-  pub few_begin : batches s ≤ all + depth s + 2
+  pub few_begin : batches s ≤ prior + depth s + 2
   few_begin = go (session_slots s) refl
     where
-      go : (n : ℕ) → n ≡ session_slots s → total n (λ k. if nat_eq (batch s k) k then 1 else 0) ≤ all + depth s + 2
+      go : (n : ℕ) → n ≡ session_slots s → total n (λ k. if nat_eq (batch s k) k then 1 else 0) ≤ prior + depth s + 2
       go zero e = omega arith
       go (suc n) e =
           let few = begun_few n (omega (arith, e)) in
@@ -394,16 +410,35 @@ module _ (s : Session) (wired : IsWired s) (by_layers : StandsByLayers s) (joins
 
 -- ---- the laws
 
+-- each prepared product is a gate that multiplies
+pub prepared_counted : (s : Session) → prepared_products s ≡ prepared_before s (length s.gates)
+prepared_counted s = elim (cases_Bool s.prepared) [
+  | inl e ↦ cond-true s.prepared (products s) 0 e ∙ sym (all_prepared s e)
+  | inr e ↦ cond-false s.prepared (products s) 0 e ∙ sym (none_before s e (length s.gates))
+]
+
+-- where masks come ahead or not
+pub layers_few : (s : Session) → IsWired s → StandsByLayers s → JoinsLast s → batches s ≤ preparing_batches s + depth s + 2
+layers_few s wired by_layers joins_last =
+    let few = few_begin s wired by_layers joins_last in
+    let same = ap (λ n. if s.ahead then min 1 n else n) (prepared_counted s) in
+    omega (arith, few, same)
+
 pub prepared_few : (s : Session) → IsWired s → StandsByLayers s → JoinsLast s → batches s ≤ prepared_products s + depth s + 2
 prepared_few s wired by_layers joins_last =
-    let few = few_begin s wired by_layers joins_last in
-    elim (cases_Bool s.prepared) [
-      | inl e ↦ (let are = all_prepared s e in let count = cond-true s.prepared (products s) 0 e in omega (arith, few, are, count))
-      | inr e ↦ (let none = none_before s e (length s.gates) in omega (arith, few, none))
-    ]
+    let few = layers_few s wired by_layers joins_last in
+    let less = cond_both s.ahead (min 1 (prepared_products s)) (prepared_products s) (λ n. n ≤ prepared_products s) (λ e. min-le_right 1 (prepared_products s)) (λ e. omega arith) in
+    omega (arith, few, less)
+
+pub ahead_few : (s : Session) → IsWired s → s.ahead ≡ true → StandsByLayers s → JoinsLast s → batches s ≤ depth s + 3
+ahead_few s wired ahead by_layers joins_last =
+    let few = layers_few s wired by_layers joins_last in
+    let same = cond-true s.ahead (min 1 (prepared_products s)) (prepared_products s) ahead in
+    let one = min-le_left 1 (prepared_products s) in
+    omega (arith, few, same, one)
 
 pub batches_few : (s : Session) → IsWired s → s.prepared ≡ false → StandsByLayers s → batches s ≤ depth s + 2
 batches_few s wired direct by_layers =
-    let few = few_begin s wired by_layers (λ t u less l e linear. absurd (false≢true (sym (none_prepared s direct t) ∙ e))) in
-    let none = none_before s direct (length s.gates) in
+    let few = prepared_few s wired by_layers (λ t u less l e linear. absurd (false≢true (sym (none_prepared s direct t) ∙ e))) in
+    let none = cond-false s.prepared (products s) 0 direct in
     omega (arith, few, none)

@@ -1,7 +1,8 @@
 -- The layers of a circuit's products.
-use Rattle.std.specs.Prelude.{◌≡◌, ℕ, zero, suc, ◌+◌, ◌<◌, ◌≤◌, max, nat_eq, true, false, if◌then◌else◌, List, [], ◌∷◌, length}
+use Rattle.std.specs.Prelude.{◌≡◌, ℕ, zero, suc, ◌+◌, ◌<◌, ◌≤◌, min, max, nat_eq, true, false, if◌then◌else◌, List, [], ◌∷◌, length}
 use Rattle.circuit_model.specs.Circuits.{is_product}
 use Rattle.circuit_model.specs.Netlists.{read_by}
+use Rattle.job_session.specs.Counts.{prepared_products}
 use Rattle.job_session.specs.KeptWires.{greatest}
 use Rattle.job_session.specs.Sessions.{Session, gate, is_prepared}
 
@@ -37,3 +38,8 @@ abbrev pub JoinsLast : Session → Type 0
 JoinsLast s =
     (t u : ℕ) → t < u → u < length s.gates → is_prepared s t ≡ true → is_product (gate s u).operation ≡ false
     → layer s t < layer s u
+
+-- how many batches at most are of masks and their products alone, before the one with the inputs: one of each prepared
+-- product in turn or, where all masks come ahead, one of them all
+abbrev pub preparing_batches : Session → ℕ
+preparing_batches s = if s.ahead then min 1 (prepared_products s) else prepared_products s

@@ -3,4 +3,4 @@
 
 mod laws;
 
-pub use laws::{batches_are_few, prepared_batches_are_few};
+pub use laws::{batches_ahead_are_few, batches_are_few, prepared_batches_are_few};
