@@ -126,7 +126,7 @@ module _ (w : World) (got : Key → ℕ) (s p : ℕ) (h : Runs w s p) where
   abbrev made_in : Slot → ℕ → ℕ
   made_in (Mask t side) = local_mask w got p s t side
   made_in (Mask_product t) = local_mask_product w got p s t
-  made_in z i = 0
+  made_in z = λ i. 0
 
   -- before slot k, which is no later than the first input's: each slot so far has set its row, in whatever order they stand
   record Preparing (k : ℕ) (σ : State) : Type 0 where
