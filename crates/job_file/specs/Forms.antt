@@ -17,7 +17,7 @@ use Rattle.job_file.specs.declared.products.Products.{Products}
 use Rattle.job_file.specs.declared.products.Products.TheVariants.{Direct}
 use Rattle.job_file.specs.Names.{field_text, layout_of, are_short, are_own}
 use Rattle.job_file.specs.Owners.{owner_in}
-use Rattle.job_file.specs.Products.{products_of}
+use Rattle.job_file.specs.Products.{products_named}
 use Rattle.party_set.specs.Parties.{with_party}
 
 -- a session: the file of its circuit and what that has, how its products are made, what gives each input value,
@@ -84,7 +84,7 @@ adversary_field fields = if is_version_two fields then Tolerated else Formula
 -- how the products of a session are made: they are direct where no field tells
 unfoldable pub products_in : Members → Option Products
 products_in fields =
-    if has_field (field_text ProductsField) fields then products_of (text ProductsField fields) else Some Direct
+    if has_field (field_text ProductsField) fields then products_named (text ProductsField fields) else Some Direct
 
 -- whether frames between nodes are short: they name their messages where no field tells
 unfoldable pub short_frames_in : Members → Option Bool

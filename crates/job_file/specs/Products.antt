@@ -17,8 +17,8 @@ is_ahead Prepared = false
 is_ahead Ahead = true
 
 -- the way that this text tells: direct, prepared or ahead
-unfoldable pub products_of : List ℕ → Option Products
-products_of name =
+unfoldable pub products_named : List ℕ → Option Products
+products_named name =
     if bytes_eq name (codes "direct") then Some Direct
     else if bytes_eq name (codes "prepared") then Some Prepared
     else if bytes_eq name (codes "ahead") then Some Ahead

@@ -13,7 +13,7 @@ ghost use Rattle.job_file.specs.declared.fault.JobFault.TheVariants.{Unknown};
 use crate::fault::JobFault;
 use crate::field::Field;
 use crate::products::Products;
-use crate::texts::{are_own, are_short, products_of};
+use crate::texts::{are_own, are_short, products_named};
 use party_set::NameText;
 use std::alloc::{AllocError, Global};
 use toml::Table;
@@ -122,7 +122,7 @@ pub fn products_in(table: &Table) -> Option<Products>
     ensures { result ≡ products_in (table_view table.now) }
 {
     if is_there(table, Field::Products) {
-        products_of(text_at(table, Field::Products.text()))
+        products_named(text_at(table, Field::Products.text()))
     } else {
         Some(Products::Direct)
     }

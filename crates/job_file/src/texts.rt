@@ -2,7 +2,7 @@
 ghost use Rattle.std.specs.Prelude.{◌≡◌};
 ghost use Rattle.std.specs.List.{list_all};
 ghost use Rattle.job_file.specs.Names.{is_file_byte, is_file_name, is_host_byte, is_host, layout_of, are_short, are_own};
-ghost use Rattle.job_file.specs.Products.{products_of};
+ghost use Rattle.job_file.specs.Products.{products_named};
 
 use crate::layout::SessionLayout;
 use crate::limits::{LONGEST_FILE_NAME, LONGEST_HOST};
@@ -71,9 +71,9 @@ pub fn layout_of(version_two: bool, name: &str) -> Option<SessionLayout>
 }
 
 /// The way to make products that this text tells: direct, prepared or ahead.
-#[tactic(auto, unfolding(crate::specs::Products::products_of))]
-pub fn products_of(name: &str) -> Option<Products>
-    ensures { result ≡ products_of name.now }
+#[tactic(auto, unfolding(crate::specs::Products::products_named))]
+pub fn products_named(name: &str) -> Option<Products>
+    ensures { result ≡ products_named name.now }
 {
     match name {
         "direct" => Some(Products::Direct),

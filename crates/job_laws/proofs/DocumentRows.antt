@@ -28,7 +28,7 @@ use Rattle.job_file.specs.declared.layout.SessionLayout.{SessionLayout}
 use Rattle.job_file.specs.declared.layout.SessionLayout.TheVariants.{Gates, Expressions}
 use Rattle.job_file.specs.declared.products.Products.{Products}
 use Rattle.job_file.specs.declared.products.Products.TheVariants.{Direct, Prepared, Ahead}
-use Rattle.job_file.specs.Products.{is_prepared, products_of}
+use Rattle.job_file.specs.Products.{is_prepared, products_named}
 use Rattle.job_file.specs.Names.{field_text, field_kind, top_fields, session_fields, is_file_name, is_host, layout_of, are_short, are_own}
 use Rattle.job_file.specs.Forms as forms
 use Rattle.job_file.specs.Forms.{JobForm, SessionForm, AdversaryForm, by_formula, by_list, is_version_two, adversary_field, products_in, short_frames_in, own_views_in, owner_of, session_form, session_forms, adversary_form, job_form, mask_of}
@@ -134,13 +134,13 @@ unfolding is_of_kind
 choice_kind name true = refl
 choice_kind name false = tt
 
-products_told : (name : List ℕ) (ms : Members) → value_of ProductsField ms ≡ Some (string name) → products_in ms ≡ products_of name
+products_told : (name : List ℕ) (ms : Members) → value_of ProductsField ms ≡ Some (string name) → products_in ms ≡ products_named name
 unfolding products_in
-products_told name ms at = ap₂ (λ told text. cond told (products_of text) (Some Direct)) (there ProductsField ms _ at) (text_is ProductsField ms name at)
+products_told name ms at = ap₂ (λ told text. cond told (products_named text) (Some Direct)) (there ProductsField ms _ at) (text_is ProductsField ms name at)
 
 products_back : (products : Products) (ms : Members) → value_of ProductsField ms ≡ products_data products → products_in ms ≡ Some products
-unfolding products_in products_of
-products_back Direct ms at = ap (λ told. cond told (products_of (forms.text ProductsField ms)) (Some Direct)) (not_there ProductsField ms at)
+unfolding products_in products_named
+products_back Direct ms at = ap (λ told. cond told (products_named (forms.text ProductsField ms)) (Some Direct)) (not_there ProductsField ms at)
 products_back Prepared ms at = products_told (codes "prepared") ms at
 products_back Ahead ms at = products_told (codes "ahead") ms at
 
