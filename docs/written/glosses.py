@@ -189,6 +189,7 @@ HEADINGS = {
     ('posting_laws', 'PostingOrders'): 'Any order of posts',
     ('posting_laws', 'Blame'): 'The first wrong word',
     ('posting_laws', 'Locality'): 'What a party computes is of its own',
+    ('posting_laws', 'Preparation'): 'What is prepared before any input',
     ('decoded_jobs', 'Jobs'): 'Good jobs',
     ('decoded_jobs', 'Promises'): 'What a tolerated group learns, and what a job asks for',
     ('decoded_jobs', 'SomeChange'): 'The promise in short: some bijection, and some simulator',
