@@ -70,11 +70,11 @@ class Product:
 
 
 # Where the parties stand in a panel.
-PLACES = [(92, 224), (308, 224), (200, 78)]
+PLACES = [(82, 216), (318, 216), (200, 70)]
 PANEL_WIDTH, PANEL_HEIGHT, RADIUS = 400, 312, 19
 
-# How far the arrows between two parties are from the line between them.
-APART = 16
+# How far the arrows between two parties are from the line between them, and how far from a party they begin and end, so that those of two others don't cross.
+APART, CLEAR = 12, 12
 
 
 class ProductPicture:
@@ -105,12 +105,12 @@ class ProductPicture:
             length = ((to_x - from_x)**2 + (to_y - from_y)**2)**0.5
             along_x, along_y = (to_x - from_x) / length, (to_y - from_y) / length
             off_x, off_y = along_y * APART, -along_x * APART
-            start, end = RADIUS, length - RADIUS
+            start, end = RADIUS + CLEAR, length - RADIUS - CLEAR
             self.drawing.arrow(x + from_x + along_x * start + off_x, y + from_y + along_y * start + off_y,
                                x + from_x + along_x * end + off_x, y + from_y + along_y * end + off_y)
             for place, message in enumerate(its_messages):
-                at = start + (0.3 + 0.32 * place) * (end - start)
-                self.drawing.chip(x + from_x + along_x * at + off_x, y + from_y + along_y * at + off_y, str(message.word), SUMMANDS[message.share])
+                at = start + (0.22 + 0.36 * place) * (end - start)
+                self.drawing.chip(x + from_x + along_x * at + off_x, y + from_y + along_y * at + off_y, str(message.word), SUMMANDS[message.share], 28)
 
     def parties(self, x, y, notes):
         for number, (name, note) in enumerate(zip(self.product.names, notes)):
@@ -168,11 +168,11 @@ class ProductPicture:
             at_x, at_y = PLACES[number]
             held = [share for share in range(3) if not product.sharing.lacked(share, name)]
             for place, share in enumerate(held):
-                self.drawing.chip(x + at_x + (36 if number == 2 else -16) + 34 * place, y + at_y + (0 if number == 2 else 34), str(product.z[share]), SUMMANDS[share])
-        self.drawing.text(x + PLACES[2][0] + 112, y + PLACES[2][1] + 5, f'→ {sum(product.z) % product.modulus}', 15, INK, weight='bold')
+                self.drawing.chip(x + at_x + (42 if number == 2 else -17) + 34 * place, y + at_y + (0 if number == 2 else 34), str(product.z[share]), SUMMANDS[share])
+        self.drawing.text(x + PLACES[2][0] + 116, y + PLACES[2][1] + 5, f'→ {sum(product.z) % product.modulus}', 15, INK, weight='bold')
 
     def draw(self):
-        self.drawing.text(10, 24, 'One product among three parties, none of whom learns anything of the others', 17, INK, weight='bold')
+        self.drawing.text(10, 24, 'One product among three parties, none of whom learns more than it reads', 17, INK, weight='bold')
         x = 10
         for share, name in enumerate(self.product.names):
             holders = ' and '.join(other for other in self.product.names if not self.product.sharing.lacked(share, other))

@@ -14,8 +14,10 @@ the others give and read nothing. Any two may know everything, and one alone lea
     --fewest rounds        the layers of the whole circuit stay together, which takes fewer rounds of nodes and carries more
     --gates N              at most so many gates in a session, for smaller ones
 
-The sessions are as few as can be where the gates keep the order of the file or one of two others, and are cut where few wires live. Each is in layers. Who gives an input value gives it once, and output
-values are read once, both in the order of the circuit: so examples/numbers.py writes and reads its numbers. What no output needs is left out.
+The gates keep the order of the file, or one of two others: each just behind what it needs, from the first output on or from the last. These three are tried, or
+with --fewest rounds that by layers alone, and the sessions are the fewest that are found so, cut where few wires live; another order might do with fewer. Each
+is in layers. Who gives an input value gives it once, and output values are read once, both in the order of the circuit: so examples/numbers.py writes and reads
+its numbers. What no output needs is left out.
 
 Prints what the file has and by how much that is more than one session takes; the gates, the products, the rounds of nodes and the messages of
 each session, and the words that it carries from earlier ones; and these of the whole job. A circuit that is past a limit of a job is
@@ -218,7 +220,7 @@ def first_fitted(orders, count):
 
 
 def cut(circuit, owners, most_gates, fewest):
-    """The parts of a circuit, as few as its gates let them be in one of the orders that are tried, cut where few wires live. For few rounds there is one
+    """The parts of a circuit, the fewest that are found in one of the orders that are tried, cut where few wires live. For few rounds there is one
     order, by layers. Else there is that of the file and, where it needs more sessions or more than few wires live at its cuts, there are two others."""
     wires = needed(circuit)
     count = max(1, -(-len(wires) // most_gates))

@@ -15,8 +15,9 @@ SUMMANDS = ['#f6c85f', '#9ccfe0', '#c9a3d9']
 
 FONT = "-apple-system, 'Segoe UI', Helvetica, Arial, 'DejaVu Sans', sans-serif"
 
-# About how wide a letter is, as a part of its size.
-LETTER = 0.56
+# About how wide a letter is in the widest of these fonts, as a part of its size: a wide one, a narrow one, and any other.
+WIDTHS = {**dict.fromkeys('mMW%@', 0.98), **dict.fromkeys('fijlrtI.,:;\'|()[] ', 0.36)}
+OTHER = 0.63
 
 
 def number(value):
@@ -24,10 +25,18 @@ def number(value):
     return f'{round(value, 1):g}'
 
 
+def width_of(text, size):
+    """About how wide a text is."""
+    return size * sum(WIDTHS.get(letter, OTHER) for letter in text)
+
+
 def short(text, size, width):
     """A text cut to a width."""
-    most = max(int(width / (size * LETTER)), 1)
-    return text if len(text) <= most else text[:most - 1] + '…'
+    if width_of(text, size) <= width:
+        return text
+    while text and width_of(text + '…', size) > width:
+        text = text[:-1]
+    return text + '…'
 
 
 def count(value):
@@ -73,9 +82,10 @@ class Drawing:
             self.text(x, y + size * 0.36, letter, size, WHITE, 'middle', 'bold')
 
     def chip(self, x, y, text, fill, width=30, height=18, size=12):
-        """A small box around a point, with a text in it."""
+        """A small box around a point, with a text in it or none."""
         self.box(x - width / 2, y - height / 2, width, height, fill, 'none', 4)
-        self.text(x, y + size * 0.36, text, size, INK, 'middle')
+        if text:
+            self.text(x, y + size * 0.36, text, size, INK, 'middle')
 
     def svg(self, height):
         head = (f'<svg xmlns="http://www.w3.org/2000/svg" viewBox="0 0 {number(self.width)} {number(height)}" width="{number(self.width)}" '

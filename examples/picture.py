@@ -14,7 +14,7 @@ import os
 import sys
 
 from doubts import told as listed
-from drawing import BOX, DIRECT, FAINT, INK, LINE, PARTIES, PREPARED, WHITE, Drawing, count, short
+from drawing import BOX, DIRECT, FAINT, INK, LINE, PARTIES, PREPARED, WHITE, Drawing, count, short, width_of
 from job_counts import counts_of
 from job_folder import run_script
 
@@ -24,8 +24,11 @@ LAYOUTS = {'bristol': 'circuit of bits', 'ring': 'circuit of words', 'expr': 'ex
 # So many groups and carrying arrows are drawn, and the others are counted.
 MOST_PILLS, MOST_ARROWS = 24, 24
 
-# Up to so many parties the table of messages stands beside the parties.
-BESIDE = 6
+# So wide a name stands above a column of the table.
+MOST_TURNED = 150
+
+# Up to so many parties, with names of up to such a width, the table of messages stands beside the parties.
+BESIDE, BESIDE_WIDTH = 6, 80
 
 
 def few(number):
@@ -68,8 +71,8 @@ class JobPicture:
         """The parties on a circle."""
         places = {}
         for number, name in enumerate(self.names):
-            angle = 2 * math.pi * number / len(self.names) - math.pi / 2
-            places[name] = x + radius * math.cos(angle), y + radius * math.sin(angle)
+            angle, away = 2 * math.pi * number / len(self.names) - math.pi / 2, radius if len(self.names) > 1 else 0
+            places[name] = x + away * math.cos(angle), y + away * math.sin(angle)
         most = max([self.messages[one, other] + self.messages[other, one] for one in self.names for other in self.names], default=0) or 1
         for number, one in enumerate(self.names):
             for other in self.names[:number]:
@@ -79,7 +82,7 @@ class JobPicture:
         for name, (at_x, at_y) in places.items():
             self.drawing.dot(at_x, at_y, 15, self.colours[name], name[0].upper())
             side = 0 if abs(at_x - x) < 2 else 1 if at_x > x else -1
-            above = -22 if at_y < y else 31
+            above = 31 if at_y > y + 2 else -22
             self.drawing.text(at_x + 20 * side, at_y + (4 if side else above), name, 12 if len(name) < 12 else 11, INK,
                               {0: 'middle', 1: 'start', -1: 'end'}[side])
 
@@ -92,7 +95,7 @@ class JobPicture:
             self.drawing.text(x - 20, middle + 4, name, 12 if len(name) < 12 else 10.5, INK, 'end')
             at = x + cell * (number + 0.5)
             self.drawing.dot(at, y - 10, 5, self.colours[name])
-            self.drawing.text(at + 2, y - 20, name, 11, INK, transform=f'rotate(-35 {at + 2:.1f} {y - 20})')
+            self.drawing.text(at + 2, y - 20, short(name, 11, MOST_TURNED), 11, INK, transform=f'rotate(-35 {at + 2:.1f} {y - 20})')
         for row, one in enumerate(self.names):
             for column, other in enumerate(self.names):
                 found = self.messages[one, other]
@@ -105,7 +108,8 @@ class JobPicture:
 
     def parties(self):
         self.heading('Who sends how many messages to whom')
-        count_of, beside = len(self.names), len(self.names) <= BESIDE
+        count_of = len(self.names)
+        beside = count_of <= BESIDE and max(width_of(name, 12) for name in self.names) <= BESIDE_WIDTH
         cell = min(48, 220 / count_of) if beside else 44
         height = max(210, cell * count_of + 100) if beside else 290
         self.circle(190 if beside else WIDTH / 2, self.y + (height if beside else 250) / 2, 68 if beside else 90)
@@ -121,7 +125,7 @@ class JobPicture:
         self.heading('Who must learn nothing, even together')
         x, height = MARGIN, 28
         for group in groups[:MOST_PILLS]:
-            width = sum(24 + 7.2 * len(name) for name in group) + 14 if group else 74
+            width = sum(24 + width_of(name, 12) for name in group) + 14 if group else 74
             if x + width > WIDTH - MARGIN and x > MARGIN:
                 x, self.y = MARGIN, self.y + height + 8
             self.drawing.box(x, self.y, width, height, BOX, LINE, 14)
@@ -131,12 +135,12 @@ class JobPicture:
             for name in group:
                 self.drawing.dot(at + 4, self.y + height / 2, 5, self.colours[name])
                 self.drawing.text(at + 13, self.y + 18, name, 12)
-                at += 24 + 7.2 * len(name)
+                at += 24 + width_of(name, 12)
             x += width + 8
         self.y += height + 18
-        rest = f', and {len(groups) - MOST_PILLS} groups more' if len(groups) > MOST_PILLS else ''
+        rest = f' and of {len(groups) - MOST_PILLS} more' if len(groups) > MOST_PILLS else ''
         count_of = len(groups)
-        self.drawing.text(MARGIN, self.y, f'Each value is cut into {many(count_of, "summand")}, one for each of these groups, which its members do not get{rest}.'
+        self.drawing.text(MARGIN, self.y, f'Each value is cut into {many(count_of, "summand")}, one for each of these groups{rest}, which its members do not get.'
                           if any(groups) else 'So each party by itself may know everything.', 12, FAINT)
         self.y += 8
 
@@ -144,6 +148,8 @@ class JobPicture:
         """Who has how many values."""
         if not counts:
             return 'nobody'
+        if len(counts) == len(self.names) > BESIDE and set(counts.values()) == {1}:
+            return 'all parties'
         if len(set(counts.values())) == 1 and len(counts) > 1:
             each = next(iter(counts.values()))
             return f'{listed(list(counts))} ({many(each, word)} each)' if each > 1 else listed(list(counts))

@@ -41,6 +41,7 @@ from random_expressions import SCRIPT, with_circuits  # noqa: E402
 from views import lines_with  # noqa: E402
 from waits import MOST_SECONDS, told  # noqa: E402
 # (it puts the scripts of examples/ before those of this folder)
+import drawing  # noqa: E402
 import nodes  # noqa: E402
 import secured  # noqa: E402
 import job_counts  # noqa: E402
@@ -738,14 +739,30 @@ def the_product_is_the_examples(program, top):
     expect(done.stdout.startswith(f'out 0 0 c {sum(product.z) % product.modulus}\n'), f'{product.z}')
 
 
+def expect_texts_inside(picture, name):
+    """No text of a picture goes past its sides, and none that begins in a box without ending in it goes past that: by the widest font."""
+    tree = xml.etree.ElementTree.fromstring(picture)
+    width, kind = float(tree.get('width')), '{http://www.w3.org/2000/svg}'
+    boxes = [tuple(float(box.get(field, 0)) for field in ('x', 'y', 'width', 'height')) for box in tree.iter(f'{kind}rect')]
+    for text in tree.iter(f'{kind}text'):
+        x, y, wide = float(text.get('x')), float(text.get('y')), drawing.width_of(text.text, float(text.get('font-size')))
+        left = x - wide * {'start': 0, 'middle': 0.5, 'end': 1}[text.get('text-anchor')]
+        turned = text.get('transform') is not None
+        expect(left >= 0 and left + wide * (0.83 if turned else 1) <= width, f'{name}: {text.text!r} goes past the sides')
+        around = [box for box in boxes if box[0] <= x <= box[0] + box[2] and box[1] <= y <= box[1] + box[3] and text.get('text-anchor') == 'start']
+        expect(turned or all(left + wide <= box[0] + box[2] for box in around), f'{name}: {text.text!r} goes past its box')
+
+
 def jobs_are_drawn(program, top):
-    """Also one of a single party, and one of twelve with the longest names; and what isn't a job is refused."""
-    names = [f'a{number:015}' for number in range(12)]
-    for parties, tolerated in [(names, [[name] for name in names]), (['a'], []), (['a', 'b'], [[]])]:
+    """Also one of a single party, and those of six and of twelve with the longest names; and what isn't a job is refused."""
+    names, wide = [f'a{number:015}' for number in range(12)], [f'm{number:02}' + 13 * 'W' for number in range(12)]
+    for path in [*EXAMPLES.glob('*/job.svg'), *TOP.glob('docs/pictures/*.svg')]:
+        expect_texts_inside(path.read_text(encoding='utf-8'), path.name)
+    for parties, tolerated in [(names, [[name] for name in names]), (wide, [[name] for name in wide]), (wide[:6], [wide[:2], wide[2:4]]), (['a'], []), (['a', 'b'], [[]])]:
         sessions = [{'circuit': 'f.txt', 'layout': 'expr', 'owners': ['@0.0' if number else parties[0], parties[-1]], 'readers': [parties]} for number in range(16)]
         fields = {'version': 2, 'ring_bits': 8, 'parties': parties, 'tolerated': tolerated, 'session': sessions}
         folder = write_folder(top, {'f.txt': b'input x\ninput y\noutput x * y\n', 'job.toml': job_folder.job_text(fields).encode()})
-        xml.etree.ElementTree.fromstring(wrote(PICTURE, folder))
+        expect_texts_inside(wrote(PICTURE, folder), parties)
     for name in ['f.txt', 'job.toml']:
         pathlib.Path(folder, name).write_text('output\n')
         expect_one_line(call(PICTURE, folder), f'picture.py with another {name}', 'picture.py: ')
