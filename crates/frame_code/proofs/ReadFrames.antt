@@ -1,11 +1,11 @@
 -- What stands in a frame.
-use Rattle.std.proofs.Common.{◌≡◌, ℕ, zero, suc, ◌+◌, ◌*◌, ◌/◌, ◌<◌, ◌≤◌, ◌^◌, List, [], ◌∷◌, ◌++◌, length, take, drop, refl, sym, ap, ap₂, ◌∙◌, subst, arith}
+use Rattle.std.proofs.Common.{◌≡◌, ℕ, zero, suc, ◌+◌, ◌-◌, ◌*◌, ◌/◌, ◌%◌, ◌<◌, ◌≤◌, ◌^◌, List, [], ◌∷◌, ◌++◌, length, take, drop, refl, sym, ap, ap₂, ◌∙◌, subst, arith}
 use Rattle.std.specs.Prelude.{slice_index}
 use Rattle.std.specs.Int.{w16, w32, w64, byte_at, bytes_high_first, from_be_bytes, to_be_bytes}
-use Rattle.std.proofs.lemmas.List.{append-nil, length-take-le, take_all}
-use Rattle.std.proofs.Math.Seq.{take-append_seam}
+use Rattle.std.proofs.lemmas.List.{append-nil, length-take-le, take-append-le, take_all}
+use Rattle.std.proofs.Math.Nat.{add-mul, mul_assoc}
 use Rattle.std.proofs.Math.Pow.{pow_mono}
-use Rattle.std.proofs.lemmas.Nat.{div-mul-add, mod_below, be_bytes_2, be_bytes_4, be_bytes_8, from_be_bytes-to_be_bytes_2, from_be_bytes-to_be_bytes_4, from_be_bytes-to_be_bytes_8}
+use Rattle.std.proofs.lemmas.Nat.{div-mul-add, mod_below, pow-add, shl-shr, shl_whole, be_bytes_2, be_bytes_4, be_bytes_8, from_be_bytes-to_be_bytes_2, from_be_bytes-to_be_bytes_4, from_be_bytes-to_be_bytes_8}
 use Rattle.byteorder.specs.Endian.{big_bytes, big_from, big_number}
 use Rattle.byteorder.specs.Numbers.{big_from-cons, big_from-lt, big_from-take, big_number-reads_back, length-bytes_high_first}
 use Rattle.byteorder.proofs.Bytes.{pow256}
@@ -138,14 +138,56 @@ small_take (suc n) [] small i = omega arith
 small_take (suc n) (x ∷ xs) small zero = small 0
 small_take (suc n) (x ∷ xs) small (suc i) = small_take n xs (λ j. small (suc j)) i
 
--- the first bytes of a place that a word was written to
-pub written : (bits n word : ℕ) (bytes rest : List ℕ) → n ≡ word_bytes bits → bytes ≡ big_bytes n word ++ rest → take n bytes ≡ short_frame bits word
+-- ---- the first of eight bytes
+
+-- the number in some bytes, by that in the first n and that in the m behind them
+parts : (i n m k : ℕ) (xs : List ℕ) → k ≡ n + m → big_from i k xs ≡ big_from i n xs * 256 ^ m + big_from (i + n) m xs
+parts i zero m k xs e =
+    let all : big_from i k xs ≡ big_from (i + 0) m xs = ap₂ (λ j l. big_from j l xs) (omega arith) (omega (arith, e)) in
+    omega (arith, all)
+parts i (suc n) m zero xs e = absurd (omega (arith, e))
+parts i (suc n) m (suc k) xs e =
+    let rest = parts (suc i) n m k xs (omega (arith, e)) in
+    let place : big_from (suc i + n) m xs ≡ big_from (i + suc n) m xs = ap (λ j. big_from j m xs) (omega arith) in
+    let power : 256 ^ k ≡ 256 ^ n * 256 ^ m = ap (λ j. 256 ^ j) (omega (arith, e)) ∙ pow-add 256 n m in
+    let high : slice_index xs i * 256 ^ k ≡ slice_index xs i * 256 ^ n * 256 ^ m = ap (λ z. slice_index xs i * z) power ∙ sym (mul_assoc (slice_index xs i) (256 ^ n) (256 ^ m)) in
+    let sum = add-mul (slice_index xs i * 256 ^ n) (big_from (suc i) n xs) (256 ^ m) in
+    omega (arith, rest, place, high, sum)
+
+-- the bits behind n of eight bytes
+bits_behind : (n : ℕ) → n ≤ 8 → 2 ^ (64 - 8 * n) ≡ 256 ^ (8 - n)
+bits_behind n few = ap (λ k. 2 ^ k) (omega arith) ∙ sym (pow256 (8 - n))
+
+-- the number in the first n of eight bytes
+first_number : (n : ℕ) (xs : List ℕ) → n ≤ 8 → ((i : ℕ) → slice_index xs i < 256) → big_number 8 xs / 2 ^ (64 - 8 * n) ≡ big_number n xs
+first_number n xs few small =
+    ap₂ (λ a b. a / b) (parts 0 n (8 - n) 8 xs (omega arith)) (bits_behind n few)
+    ∙ div-mul-add (big_number n xs) (256 ^ (8 - n)) (big_from (0 + n) (8 - n) xs) (big_from-lt (0 + n) (8 - n) xs small)
+
+-- as it is read by a shift
+pub shifted : (bits n whole : ℕ) (xs : List ℕ) → bits ≤ 64 → n ≡ word_bytes bits → whole ≡ big_number 8 xs → ((i : ℕ) → slice_index xs i < 256) → whole / 2 ^ (64 - 8 * n) ≡ big_number n xs
+shifted bits n whole xs few count is small = ap (λ v. v / 2 ^ (64 - 8 * n)) is ∙ first_number n xs (omega (arith, count, few)) small
+
+-- a word of n bytes goes before the rest of eight
+high_word : (n word : ℕ) → n ≤ 8 → word < 256 ^ n → word * 2 ^ (64 - 8 * n) % 2 ^ 64 ≡ word * 2 ^ (64 - 8 * n)
+high_word n word few fits = shl_whole word (8 * n) (64 - 8 * n) 64 (subst (λ z. word < z) (pow256 n) fits) (omega arith)
+
+-- the first bytes of a place that such a word was written to
+pub written : (bits n word value : ℕ) (bytes rest : List ℕ) → n ≤ 8 → n ≡ word_bytes bits → word < 2 ^ bits → value ≡ word * 2 ^ (64 - 8 * n) % 2 ^ 64 → bytes ≡ big_bytes 8 value ++ rest
+    → take n bytes ≡ short_frame bits word
 unfolding short_frame
-written bits n word bytes rest count is =
-    ap (take n) is
-    ∙ ap (λ k. take k (big_bytes n word ++ rest)) (sym (length-bytes_high_first n word))
-    ∙ take-append_seam (big_bytes n word) rest
-    ∙ ap (λ k. big_bytes k word) count
+written bits n word value bytes rest few count small is are =
+    let eight : List ℕ = big_bytes 8 value in
+    let long : length eight ≡ 8 = length-bytes_high_first 8 value in
+    let fits : word < 256 ^ n = subst (λ k. word < 256 ^ k) (sym count) (word_fits bits word small) in
+    let whole : value ≡ word * 2 ^ (64 - 8 * n) = is ∙ high_word n word few fits in
+    let below : value < 256 ^ 8 = omega (arith, is) in
+    let number : big_number n (take n eight) ≡ word =
+    big_from-take 0 n n eight (omega arith) ∙ sym (first_number n eight few (bytes_small 8 value))
+    ∙ ap (λ v. v / 2 ^ (64 - 8 * n)) (number_back 8 value below ∙ whole) ∙ shl-shr word (64 - 8 * n) in
+    ap (take n) are ∙ take-append-le n eight rest (omega (arith, long, few))
+    ∙ sym (bytes_of_number n (take n eight) (length-take-le n eight (omega (arith, long, few))) (small_take n eight (bytes_small 8 value)))
+    ∙ ap₂ (λ k v. big_bytes k v) count number
 
 -- the number that is read there
 pub read_there : (bits n value : ℕ) (bytes : List ℕ) → length bytes ≡ 18 → ((i : ℕ) → slice_index bytes i < 256) → n ≤ 18 → n ≡ word_bytes bits → value ≡ big_number n bytes → take n bytes ≡ short_frame bits value

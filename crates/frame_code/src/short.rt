@@ -1,4 +1,4 @@
-//! Frames of a word alone.
+//! Frames of a word alone: the first bytes of eight, so that no copy is of a length that only the run knows.
 ghost use Rattle.std.specs.Prelude.{◌≡◌, ◌<◌, ◌≤◌, ◌^◌, ℕ};
 ghost use Rattle.frame_code.specs.Frames.{word_bytes, short_frame, shown};
 
@@ -15,7 +15,7 @@ pub fn short_frame(bits: u32, word: u64) -> FrameBytes
 {
     let count = word_bytes(bits);
     let mut bytes = [0; NAMED_BYTES];
-    BigEndian::write_uint(&mut bytes, word, count);
+    BigEndian::write_u64(&mut bytes, word << (64 - 8 * count));
     FrameBytes { bytes, count }
 }
 
@@ -26,5 +26,5 @@ pub fn short_word(bits: u32, bytes: &FrameBytes) -> u64
     ensures back { (word : ℕ) → word < 2 ^ bits → shown bytes.now ≡ short_frame bits word → result ≡ word }
     ensures reads { shown bytes.now ≡ short_frame bits result }
 {
-    BigEndian::read_uint(&all_of(bytes.bytes), bytes.count)
+    BigEndian::read_u64(&all_of(bytes.bytes)) >> (64 - 8 * bytes.count)
 }

@@ -1,4 +1,4 @@
-use Rattle.std.proofs.Common.{◌≡◌, ◌<◌, ◌^◌, ℕ, Option, Some, None, sym, ap, ◌∙◌}
+use Rattle.std.proofs.Common.{◌≡◌, ℕ, Option, Some, None, sym, ap, ◌∙◌}
 use Rattle.std.specs.Prelude.{IfSome}
 use Rattle.frame_code.specs.Frames.{frame, frame_bytes, frame_as, bytes_as, shown, named_frame}
 use Rattle.frame_code.proofs.ReadFrames.{all_shown, small_64}
