@@ -1,19 +1,29 @@
 -- The messages that a party expects, and where they stand.
-use Rattle.std.proofs.Common.{◌≡◌, ◌≢◌, ℕ, ◌+◌, ◌<◌, ◌≤◌, Bool, true, false, cond, not, nat_eq, ne_eqb, ◌&&◌, List, [], ◌∷◌, ◌++◌, set, take, length, refl, sym, ap, ◌∙◌, subst, arith}
-use Rattle.std.specs.Prelude.{filter, slice_index}
+use Rattle.std.proofs.Common.{◌≡◌, ◌≢◌, ℕ, ◌+◌, ◌<◌, ◌≤◌, Bool, true, false, cond, not, nat_eq, ne_eqb, ◌&&◌, List, [], ◌∷◌, ◌++◌, map, set, take, length, refl, sym, ap, ◌∙◌, subst, arith}
+use Rattle.std.specs.Prelude.{filter, slice_index, slice_index_or}
 use Rattle.std.proofs.lemmas.Bool.{cases_lt, cases_eq, and_from, eq-eqb}
-use Rattle.std.proofs.lemmas.List.{length-take, get_or-append-add, get_or-set_same, get_or-set_other}
+use Rattle.std.proofs.lemmas.List.{append_assoc, length-take, get_or-append-add, get_or-set_same, get_or-set_other}
 use Rattle.std.proofs.Math.ListN.{get_or-append}
 use mathlib.Core.Logic.{inl, inr}
+use Rattle.std.proofs.lemmas.List.Elements.{filter-append}
 use Rattle.std.proofs.lemmas.List.Filters.{length-filter_more, length-filter_both}
-use Rattle.job_plan.specs.Plans.{Plan, session}
+use Rattle.list_laws.specs.Lists.{joined}
+use Rattle.list_laws.proofs.JoinedLists.{joined_more}
+use Rattle.job_plan.specs.Plans.{Plan, session, slot, slots}
 use Rattle.job_plan.specs.Sound.{IsSound}
 use Rattle.job_plan.specs.declared.key.Key.{Key}
-use Rattle.job_plan.specs.Messages.{messages}
+use Rattle.job_plan.specs.declared.pattern.Transfer.{Transfer}
+use Rattle.job_plan.specs.Messages.{messages, slot_messages}
 use Rattle.job_plan.specs.Numbers.{message, no_key}
+use Rattle.job_plan.specs.Firsts.{count, first}
+use Rattle.job_plan.specs.Patterns.{named, pattern_at, transfers}
 use Rattle.job_plan.proofs.PlanSchemes.{plan_is}
 use Rattle.job_plan.proofs.Slots.{few_slots}
 use Rattle.job_plan.proofs.DistinctMessages.{every_place}
+use Rattle.job_plan.proofs.RankSearch.{named_at, no_transfer}
+use Rattle.job_plan.proofs.SlotMessages.{message_at, number_within}
+use Rattle.job_plan.proofs.SlotPatterns.{slots_follow_patterns}
+use Rattle.job_plan.proofs.SlotStarts.{pattern_count}
 use Rattle.party_program.specs.Proper.{Proper}
 use Rattle.program_laws.specs.Once.{IsBetweenParties}
 use Rattle.program_laws.proofs.MessageParties.{between}
@@ -21,13 +31,9 @@ use Rattle.program_laws.proofs.SentMessages.{givers}
 use Rattle.program_laws.proofs.OncePosted.{once}
 use Rattle.program_laws.proofs.ProperPrograms.{proper_at}
 use Rattle.frame_code.specs.Frames.{FitsFrame}
-use Rattle.node_talk.specs.Talks.{goes, messages_between}
+use Rattle.node_talk.specs.Talks.{Node, goes, messages_between}
 use Rattle.node_talk.proofs.PassedLists.{every_filtered, every_from_places}
-use Rattle.link_reader.specs.Expected.{AllFitFrames}
-
--- how many of the first n messages go from q to this party
-abbrev pub sent_before : Plan → ℕ → ℕ → ℕ → ℕ
-sent_before plan q me n = length (filter (goes q me) (take n (messages plan)))
+use Rattle.link_reader.specs.Expected.{AllFitFrames, ArePlaced, HasPlaces, sent_before}
 
 abbrev pub place_in : Plan → ℕ → ℕ → ℕ
 place_in plan me m = sent_before plan (message plan m).sender me m
@@ -81,10 +87,62 @@ module _ (plan : Plan) (me n : ℕ) (l : n < length (messages plan)) where
     pub count_same : (message plan n).receiver ≢ me → (q : ℕ) → q < plan.parties → slice_index counts q ≡ sent_before plan q me (n + 1)
     count_same ne q lq = h q lq ∙ sym (no_more plan q me n l (goes_not_to (message plan n) q me ne))
 
--- ---- frames
+-- ---- slot by slot
 
 pub between_parties : (plan : Plan) → IsSound plan → (m : ℕ) → m < length (messages plan) → IsBetweenParties plan (message plan m)
 between_parties plan h m lm = between plan m (plan_is plan h) (givers plan h) lm
+
+-- the message of this number is this one, and its sender is a party
+pub record IsSent (plan : Plan) (n : ℕ) (key : Key) : Type 0 where
+  pub there : n < length (messages plan)
+  pub is : message plan n ≡ key
+  pub sender : key.sender < plan.parties
+
+-- one part of the messages more
+pub filter_more : (test : Key → Bool) (n : ℕ) (f : ℕ → List Key) → filter test (joined n f) ++ filter test (f n) ≡ filter test (joined (n + 1) f)
+filter_more test n f = sym (ap (filter test) (joined_more n f) ∙ filter-append test (joined n f) (f n))
+
+-- behind what stands before
+pub filter_behind : (test : Key → Bool) (n : ℕ) (f : ℕ → List Key) (front xs more : List Key) → xs ≡ front ++ filter test (joined n f) → more ≡ xs ++ filter test (f n) → more ≡ front ++ filter test (joined (n + 1) f)
+filter_behind test n f front xs more before is =
+    is ∙ ap (λ keys. keys ++ filter test (f n)) before ∙ append_assoc front (filter test (joined n f)) (filter test (f n)) ∙ ap (λ keys. front ++ keys) (filter_more test n f)
+
+module _ (plan : Plan) (s k : ℕ) (xs : List Transfer) (are : xs ≡ transfers plan (pattern_at plan s k)) where
+  -- the messages of a slot are the transfers of its pattern, named
+  pub slot_is : map (named s k) xs ≡ slot_messages plan s k (slot plan s k)
+  slot_is = ap (map (named s k)) are ∙ sym (slots_follow_patterns plan s k (slot plan s k))
+
+  pub count_is : length xs ≡ count plan s k
+  count_is = ap length are ∙ pattern_count plan s k
+
+  module _ (ls : s < length plan.sessions) (lk : k < slots plan s) (i : ℕ) (l : i < length xs) where
+    here : i < count plan s k
+    here = omega (arith, l, count_is)
+
+    message_there : first plan s k + i < length (messages plan)
+    message_there = number_within plan s k ls lk i here
+
+    -- transfer i of a slot is the message of this number
+    pub message_is : (key : Key) → key ≡ named s k (slice_index_or xs i no_transfer) → message plan (first plan s k + i) ≡ key
+    message_is key told = message_at plan s k ls lk i here ∙ ap (λ keys. slice_index_or keys i no_key) (sym slot_is) ∙ named_at s k xs i l ∙ sym told
+
+    -- and a party sends it
+    pub transfer_is : IsSound plan → (key : Key) → key ≡ named s k (slice_index_or xs i no_transfer) → IsSent plan (first plan s k + i) key
+    transfer_is sound key told =
+        let is : message plan (first plan s k + i) ≡ key = message_is key told in
+        record {
+          there = message_there;
+          is = is;
+          sender = subst (λ z. z.sender < plan.parties) is (between_parties plan sound (first plan s k + i) message_there).sender;
+        }
+
+-- the places of all messages
+pub has_places : (n : Node) (plan : Plan) (me : ℕ) (places counts : List ℕ) → ArePlaced plan me (length (messages plan)) places counts → n.world.plan ≡ plan → n.me ≡ me → HasPlaces n places
+has_places n plan me places counts h same_plan same_me =
+    let own = subst (λ p. ArePlaced p n.me (length (messages p)) places counts) (sym same_plan) (subst (λ p. ArePlaced plan p (length (messages plan)) places counts) (sym same_me) h) in
+    record { count = own.long; each = own.each }
+
+-- ---- frames
 
 -- a frame has room for the name of each message
 pub fits_frame : (plan : Plan) → IsSound plan → (m : ℕ) → m < length (messages plan) → FitsFrame (message plan m)

@@ -1,12 +1,13 @@
 -- What a party expects of a peer.
-use Rattle.std.specs.Prelude.{◌≡◌, ℕ, ◌<◌, ◌≤◌, ◌^◌, List, length, slice_index, slice_index_or}
+use Rattle.std.specs.Prelude.{◌≡◌, ℕ, ◌<◌, ◌≤◌, ◌^◌, List, filter, length, take, slice_index, slice_index_or}
 use Rattle.job_plan.specs.declared.key.Key.{Key}
-use Rattle.job_plan.specs.Numbers.{no_key}
+use Rattle.job_plan.specs.Plans.{Plan}
+use Rattle.job_plan.specs.Numbers.{message, no_key}
 use Rattle.job_plan.specs.Messages.{messages}
 use Rattle.frame_code.specs.declared.framing.FrameForm.{FrameForm}
 use Rattle.frame_code.specs.declared.framing.Framing.{Framing}
 use Rattle.frame_code.specs.Frames.{FitsFrame}
-use Rattle.node_talk.specs.Talks.{Node, place_of}
+use Rattle.node_talk.specs.Talks.{Node, goes, place_of}
 
 -- the hello of `peer` to party `me`, in a job of this digest, and then a frame of this form for each of these messages,
 -- with words of `bits` bits
@@ -42,3 +43,14 @@ pub record FitsTalk (talk : TalkModel) : Type 0 where
 pub record HasPlaces (n : Node) (places : List ℕ) : Type 0 where
   pub count : length places ≡ length (messages n.world.plan)
   pub each : (m : ℕ) → m < length (messages n.world.plan) → slice_index places m ≡ place_of n m
+
+-- how many of the first n messages go from q to party me
+abbrev pub sent_before : Plan → ℕ → ℕ → ℕ → ℕ
+sent_before plan q me n = length (filter (goes q me) (take n (messages plan)))
+
+-- the places of the first n messages among those that their senders send to party me, and how many each party sends it
+pub record ArePlaced (plan : Plan) (me n : ℕ) (places counts : List ℕ) : Type 0 where
+  pub long : length places ≡ n
+  pub each : (m : ℕ) → m < n → slice_index places m ≡ sent_before plan (message plan m).sender me m
+  pub many : length counts ≡ plan.parties
+  pub sent : (q : ℕ) → q < plan.parties → slice_index counts q ≡ sent_before plan q me n

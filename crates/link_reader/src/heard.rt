@@ -34,16 +34,15 @@ pub fn meet<I: Inlet>(inlet: &mut I, talk: &IncomingTalk) -> Result<(), NodeFaul
     Ok(())
 }
 
-// Reads as many bytes as a frame has.
-fn fill_frame<I: Inlet>(inlet: &mut I, count: usize) -> (Filled, FrameBytes)
-    requires { count ≤ 18 }
-    ensures fills { Fills (shown result.1) (I.reading inlet.old) (I.reading inlet.new) result.0 }
-    ensures count { result.1.count ≡ count }
-    ensures long { length (shown result.1) ≡ count }
+// Fills the place of a frame.
+fn fill_frame<I: Inlet>(inlet: &mut I, frame: &mut FrameBytes) -> Filled
+    requires { frame.old.count ≤ 18 }
+    ensures fills { Fills (shown frame.new) (I.reading inlet.old) (I.reading inlet.new) result }
+    ensures count { frame.new.count ≡ frame.old.count }
+    ensures long { length (shown frame.new) ≡ frame.old.count }
 {
-    let mut bytes = [0; NAMED_BYTES];
-    let filled = fill(inlet, &mut bytes[..count]);
-    (filled, FrameBytes { bytes, count })
+    let count = frame.count;
+    fill(inlet, &mut frame.bytes[..count])
 }
 
 // Where the frame at a place begins, if each has so many bytes.
@@ -66,8 +65,11 @@ pub fn hear<I: Inlet>(inlet: &mut I, talk: &IncomingTalk, place: usize) -> Resul
     let framing = talk.framing();
     let wanted = framing.frame_bytes();
     let at = begin_of(wanted, place);
-    let (filled, bytes) = fill_frame(inlet, wanted);
-    match filled {
+    let mut bytes = FrameBytes {
+        bytes: [0; NAMED_BYTES],
+        count: wanted,
+    };
+    match fill_frame(inlet, &mut bytes) {
         Filled::Full => (),
         Filled::Short(count) => {
             let at = at + count as u64;
