@@ -8,7 +8,8 @@ use Rattle.message_board.specs.Plain.{CellContents, plain_cell, plain_put}
 use Rattle.inbox_board.specs.declared.steps.View.{View}
 use Rattle.inbox_board.specs.Rule.{newcomer, notes}
 use Rattle.inbox_board.specs.Seats.{Looks, mark_as}
-use Rattle.job_plan.specs.Plans.{Plan}
+use Rattle.job_plan.specs.Plans.{Plan, slots}
+use Rattle.job_plan.specs.Firsts.{first}
 use Rattle.job_plan.specs.Sound.{IsSound}
 use Rattle.job_plan.specs.Messages.{messages}
 use Rattle.job_plan.specs.Numbers.{message}
@@ -68,6 +69,13 @@ no_box = record {
 -- the inbox of q
 abbrev pub box_of : Mail → ℕ → BoxModel
 box_of x q = slice_index_or x.boxes (place_among x.me q) no_box
+
+-- message m stands in slot k of session s
+pub record StandsIn (plan : Plan) (s k m : ℕ) : Type 0 where
+  pub session : s < length plan.sessions
+  pub slot : k < slots plan s
+  pub begin : first plan s k ≤ m
+  pub end : m < first plan s (k + 1)
 
 -- message m goes from a peer to the party
 pub record ComesFromPeer (x : Mail) (m : ℕ) : Type 0 where

@@ -4,6 +4,7 @@ ghost use Rattle.std.specs.Prelude.{◌≡◌, ◌≢◌, ◌<◌};
 ghost use Rattle.node_talk.specs.PeerLinks.{place_among};
 ghost use Rattle.node_run.specs.Mail.{SentTo};
 
+use crate::last_slot::LastSlot;
 use crate::mailbox::Mailbox;
 use frame_code::{FrameForm, Framing, frame};
 use job_plan::Plan;
@@ -21,6 +22,7 @@ pub struct NodeCells<'p, O: Outlet> {
     pub words: PlainCells,
     pub boxes: Vec<Mailbox>,
     pub places: Vec<u32>,
+    pub slot: LastSlot,
     pub failed: Option<u32>,
 }
 
@@ -102,7 +104,7 @@ impl<'p, O: Outlet> NodeCells<'p, O> {
         requires { ComesFromPeer self.old number }
         ensures { Looked self.old number result self.new }
     {
-        let sender = self.plan.message(number).sender;
+        let sender = self.slot.message(self.plan, number).sender;
         let place = self.places[number as usize];
         self.boxes[peer_place(self.me, sender)].word(place)
     }
@@ -112,7 +114,7 @@ impl<'p, O: Outlet> NodeCells<'p, O> {
         requires { ComesFromPeer self.old number }
         ensures { LookedAtMark self.old number result self.new }
     {
-        let sender = self.plan.message(number).sender;
+        let sender = self.slot.message(self.plan, number).sender;
         self.boxes[peer_place(self.me, sender)].mark()
     }
 }
@@ -137,7 +139,7 @@ impl<'p, O: Outlet> Cells for NodeCells<'p, O> {
 
     fn post(&mut self, number: u32, word: u64) -> Posted {
         let _ = self.words.post(number, word);
-        let key = self.plan.message(number);
+        let key = self.slot.message(self.plan, number);
         if key.receiver != self.me {
             let framing = Framing {
                 form: self.form,

@@ -5,6 +5,7 @@ mod cells;
 mod done;
 mod flushes;
 mod hellos;
+mod last_slot;
 mod laws;
 mod mailbox;
 mod parking;

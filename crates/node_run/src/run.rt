@@ -8,6 +8,7 @@ ghost use Rattle.node_run.specs.NodeRuns.{Runs};
 use crate::cells::NodeCells;
 use crate::done::NodeDone;
 use crate::hellos::greet;
+use crate::last_slot::LastSlot;
 use crate::parking::Parking;
 use crate::readers::{Remains, close_inlets, read_peers};
 use crate::ready::NodeReady;
@@ -104,6 +105,7 @@ impl NodeReady {
             words,
             boxes,
             places,
+            slot: LastSlot::new(),
             failed: None,
         };
         if !greet(&mut cells, &digest) {
