@@ -7,6 +7,7 @@ use Rattle.plan_faults.specs.declared.part_fault.PartFault.{PartFault}
 use Rattle.circuit_model.specs.Netlists.{Netlist}
 use Rattle.job_session.specs.Sessions.{Session}
 use Rattle.job_file.specs.declared.owner.JobOwner.{JobOwner}
+use Rattle.job_file.specs.declared.products.Products.{Products}
 use Rattle.job_walk.specs.declared.stop.Stop.{Stop}
 use Rattle.job_walk.specs.Verdict.{Verdict, Ends}
 use Rattle.job_walk.specs.JobOf.{file_at, groups_in, part_of}
@@ -32,11 +33,11 @@ groups_same parties (g ∷ gs) all =
     ap₂ (λ x xs. x ∷ xs) first (groups_same parties gs (All-tail (λ (g : Members). g.parties ≡ parties) g gs all))
 
 -- the session of a circuit whose groups of readers are told by masks
-pub part_same : (line : PartFault → List ℕ) (circuit : Netlist) (prepared : Bool) (owners : List JobOwner) (before : List Session) (parties : ℕ) (groups : List Members) (result : Result Session Stop)
-    → All (λ (g : Members). g.parties ≡ parties) groups → WalksAs (λ part. part) (Ends (part_of line circuit prepared owners groups before)) result
-    → WalksAs (λ part. part) (Ends (part_of line circuit prepared owners (groups_in parties (map (λ (g : Members). g.mask) groups)) before)) result
-part_same line circuit prepared owners before parties groups result all w =
-    subst (λ gs. WalksAs (λ part. part) (Ends (part_of line circuit prepared owners gs before)) result) (groups_same parties groups all) w
+pub part_same : (line : PartFault → List ℕ) (circuit : Netlist) (products : Products) (owners : List JobOwner) (before : List Session) (parties : ℕ) (groups : List Members) (result : Result Session Stop)
+    → All (λ (g : Members). g.parties ≡ parties) groups → WalksAs (λ part. part) (Ends (part_of line circuit products owners groups before)) result
+    → WalksAs (λ part. part) (Ends (part_of line circuit products owners (groups_in parties (map (λ (g : Members). g.mask) groups)) before)) result
+part_same line circuit products owners before parties groups result all w =
+    subst (λ gs. WalksAs (λ part. part) (Ends (part_of line circuit products owners gs before)) result) (groups_same parties groups all) w
 
 -- what is left of a list before and after one more
 next_left : {A B : Type 0} (f : A → B) (xs : List A) (i : ℕ) (d : A) → i < length xs → drop i (map f xs) ≡ f (get_or xs i d) ∷ drop (suc i) (map f xs)

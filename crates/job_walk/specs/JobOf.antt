@@ -23,6 +23,8 @@ use Rattle.plan_faults.specs.declared.part_fault.PartFault.{PartFault}
 use Rattle.plan_faults.specs.declared.plan_fault.PlanFault.{PlanFault}
 use Rattle.plan_faults.specs.declared.plan_fault.PlanFault.TheVariants as plan_fault
 use Rattle.job_file.specs.Forms.{JobForm, SessionForm, AdversaryForm, by_formula, by_list}
+use Rattle.job_file.specs.declared.products.Products.{Products}
+use Rattle.job_file.specs.Products.{is_prepared, is_ahead}
 use Rattle.job_file.specs.declared.owner.JobOwner.{JobOwner}
 use Rattle.job_file.specs.declared.owner.JobOwner.TheVariants.{Party, Carried}
 use Rattle.job_file.specs.declared.layout.SessionLayout.{SessionLayout}
@@ -119,13 +121,17 @@ abbrev pub owner_of : JobOwner → Owner
 owner_of (Party party) = owner.Party party
 owner_of (Carried session value) = owner.Carried session value
 
--- the session of a circuit behind those before it, with prepared products or direct ones, where the counts of owners and
--- readers are the circuit's, and each carried value is one of an earlier session and of the same width
+-- the session, its products made in this way
+abbrev pub with_products : Products → Session → Session
+with_products products s = record s { prepared = is_prepared products; ahead = is_ahead products }
+
+-- the session of a circuit behind those before it, its products made in this way, where the counts of owners and readers
+-- are the circuit's, and each carried value is one of an earlier session and of the same width
 abbrev pub part_of :
-    (PartFault → List ℕ) → Netlist → Bool → List JobOwner → List Members → List Session → Verdict Session
-part_of line circuit prepared owners readers before =
+    (PartFault → List ℕ) → Netlist → Products → List JobOwner → List Members → List Session → Verdict Session
+part_of line circuit products owners readers before =
     unless (part_fault circuit (map owner_of owners) readers before) line
-    (record (session_of circuit (map owner_of owners) readers) { prepared = prepared })
+    (with_products products (session_of circuit (map owner_of owners) readers))
 
 -- the circuit of a program of expressions, or the program's first fault
 unfoldable pub ExpressionsOf : (ExprFault → List ℕ) → ℕ → List ℕ → Verdict Netlist → Type 0
@@ -145,7 +151,7 @@ unfoldable pub SessionAt :
 SessionAt files dir job before form =
     Then (Ends (file_at files dir form.circuit)) (λ bytes.
     Then (CircuitOf form.layout form.circuit (length before) job.bits bytes) (λ circuit.
-    Ends (part_of (session_line (length before)) circuit form.prepared form.owners
+    Ends (part_of (session_line (length before)) circuit form.products form.owners
     (groups_in (length job.names) form.readers) before)))
 
 -- these sessions, after those that were read

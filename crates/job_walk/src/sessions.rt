@@ -1,14 +1,15 @@
 //! The sessions of a job: their circuits' files, the counts of owners and readers, and what they carry.
-ghost use Rattle.std.specs.Prelude.{◌≡◌, ◌<◌, ◌≤◌, [], ◌∷◌, All, IfOk, OnOk, length, map};
+ghost use Rattle.std.specs.Prelude.{◌≡◌, ℕ, ◌<◌, ◌≤◌, [], ◌∷◌, All, IfOk, OnOk, length, map};
 ghost use Rattle.circuit_model.specs.Checks.{Gives};
 ghost use Rattle.circuit_file.specs.CircuitFiles.{circuit_in};
 ghost use Rattle.job_session.specs.Parts.{CarriesFit};
 ghost use Rattle.job_session.specs.SoundSessions.{IsSoundSession};
 ghost use Rattle.job_plan.specs.Keeping.{AllFit};
+ghost use Rattle.job_file.specs.declared.products.Products.TheVariants.{Direct};
 ghost use Rattle.job_file.specs.Jobs.{job_view, session_view, IsJob, IsSession};
 ghost use Rattle.refusal_text.specs.Lines.{circuit_line, expressions_line, session_line};
 ghost use Rattle.job_walk.specs.Verdict.{Ends, verdict_of};
-ghost use Rattle.job_walk.specs.JobOf.{owner_of, part_of, CircuitOf, ExpressionsOf, SessionAt, SessionsAfter};
+ghost use Rattle.job_walk.specs.JobOf.{owner_of, part_of, with_products, CircuitOf, ExpressionsOf, SessionAt, SessionsAfter};
 ghost use Rattle.job_walk.specs.FileLogs.{Logs};
 ghost use Rattle.job_walk.specs.NodeOf.{circuit_files};
 ghost use Rattle.job_walk.specs.Reads.{ReadsAs, WalksAs};
@@ -19,7 +20,7 @@ use crate::file_log::FileLog;
 use crate::stop::refusal;
 use circuit_model::{Circuit, CircuitFault, CircuitLayout};
 use expr_circuit::ExprFault;
-use job_file::{Job, JobOwner, JobSession, SessionLayout};
+use job_file::{Job, JobOwner, JobSession, Products, SessionLayout};
 use job_plan::{Owner, SessionPart};
 use mpc_ring::Ring;
 use outer_io::Files;
@@ -162,7 +163,7 @@ fn part_of(
     requires few { length before.now < MOST_SESSIONS }
     requires session { IsSession (length job.now.names) (length before.now) session.now }
     ensures walks { WalksAs (λ part. part)
-        (Ends (part_of (session_line (length before.now)) circuit session.now.prepared session.now.owners.items
+        (Ends (part_of (session_line (length before.now)) circuit session.now.products session.now.owners.items
         session.now.readers.items before.now)) result }
     ensures sound { IfOk result (IsSoundSession (length job.now.names)) }
     ensures fit { IfOk result (CarriesFit before.now) }
@@ -171,10 +172,26 @@ fn part_of(
     let owners = owners_of(alloc, session)?;
     let readers = readers_of(session)?;
     match SessionPart::make(alloc, circuit, owners, readers, before) {
-        Ok(part) if session.prepared => Ok(part.prepared(alloc)?),
-        Ok(part) => Ok(part),
+        Ok(part) => Ok(with_products(alloc, part, session.products)?),
         Err(PartFault::Memory) => Err(Stop::Memory),
         Err(fault) => Err(refusal(session_line(alloc, before.len() as u32, fault))),
+    }
+}
+
+// The session, its products made in this way. As yet they are direct.
+fn with_products(
+    alloc: Global,
+    part: SessionPart,
+    products: Products,
+) -> Result<SessionPart, AllocError>
+    requires { with_products Direct part ≡ part }
+    ensures made { IfOk result (λ made. made ≡ with_products products part) }
+    ensures sound { (parties : ℕ) → IsSoundSession parties part → IfOk result (IsSoundSession parties) }
+{
+    match products {
+        Products::Direct => Ok(part),
+        Products::Prepared => part.prepared(alloc),
+        Products::Ahead => part.prepared_ahead(alloc),
     }
 }
 

@@ -17,14 +17,10 @@ of_parties : (parties number : ℕ) (owners : List JobOwner) (made : List Owner)
 of_parties parties number owners made readers cloned o r owned read =
     subst (λ made. AreOf parties made cloned) (sym o) (subst (AreOf parties (map owner_of owners)) (sym r) (owners_among parties number owners readers owned read))
 
-pub returns-in-Ok-2-clause-sound : goal.returns-in-Ok-2-clause-sound
-returns-in-Ok-2-clause-sound c =
-    c.in-Ok.ensures.sound (length c.args.job.now.names) (of_parties _ _ _ _ _ _ c.in_ok-owners.ensures c.in_ok-readers.ensures c.requires.session.owners c.requires.session.readers)
-
-pub returns-in_ok-prepared-in-Ok-clause-sound : goal.returns-in_ok-prepared-in-Ok-clause-sound
-returns-in_ok-prepared-in-Ok-clause-sound c =
-    c.in_ok-prepared-in-Ok.ensures.sound (length c.args.job.now.names)
+pub returns-in_ok-with_products-in-Ok-clause-sound : goal.returns-in_ok-with_products-in-Ok-clause-sound
+returns-in_ok-with_products-in-Ok-clause-sound c =
+    c.in_ok-with_products-in-Ok.ensures.sound (length c.args.job.now.names)
     (c.in-Ok.ensures.sound (length c.args.job.now.names) (of_parties _ _ _ _ _ _ c.in_ok-owners.ensures c.in_ok-readers.ensures c.requires.session.owners c.requires.session.readers))
 
-pub returns-in_ok-prepared-in-Ok-clause-fit : goal.returns-in_ok-prepared-in-Ok-clause-fit
-returns-in_ok-prepared-in-Ok-clause-fit c = subst (CarriesFit c.args.before.now) (sym c.in_ok-prepared-in-Ok.ensures.made) c.in-Ok.ensures.fit
+pub returns-in_ok-with_products-in-Ok-clause-fit : goal.returns-in_ok-with_products-in-Ok-clause-fit
+returns-in_ok-with_products-in-Ok-clause-fit c = subst (CarriesFit c.args.before.now) (sym c.in_ok-with_products-in-Ok.ensures.made) c.in-Ok.ensures.fit
