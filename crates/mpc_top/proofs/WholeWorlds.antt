@@ -49,6 +49,7 @@ use Rattle.job_file.specs.Faults.{job_in}
 use Rattle.job_file.specs.declared.layout.SessionLayout.{SessionLayout}
 use Rattle.job_file.specs.declared.layout.SessionLayout.TheVariants.{Gates, Expressions}
 use Rattle.job_file.specs.Owners.{IsOwner}
+use Rattle.job_file.specs.Products.{is_prepared, is_ahead}
 use Rattle.job_laws.specs.Documents.{AreSessionForms, IsSessionForm, IsJobForm}
 use Rattle.job_laws.proofs.ReadJobs.{good_job}
 use Rattle.party_file.specs.Table.{PartyForm, party_in, party_in_fields, party_checks, party_given}
@@ -60,7 +61,7 @@ use Rattle.job_run.specs.Parties.{world_of}
 use Rattle.mpc_top.specs.WholeJobs.{WholeJob, whole_job, JobAt}
 use Rattle.job_walk.specs.Verdict.{accepted, refused, Then, verdict_of, unless}
 use Rattle.job_walk.proofs.CarriedValues.{fit_push, owners_among, owners_earlier}
-use Rattle.job_walk.specs.JobOf.{Contents, FormulaOf, few_groups, groups_of, GroupsOf, Q2Of, StructureOf, groups_in, owner_of, part_of, CircuitOf, ExpressionsOf, SessionAt, SessionsAfter, PlanOf, Planned, PlannedOf, JobText, PlanAt, PartyAt, PartiesAfter}
+use Rattle.job_walk.specs.JobOf.{Contents, FormulaOf, few_groups, groups_of, GroupsOf, Q2Of, StructureOf, groups_in, owner_of, part_of, with_products, CircuitOf, ExpressionsOf, SessionAt, SessionsAfter, PlanOf, Planned, PlannedOf, JobText, PlanAt, PartyAt, PartiesAfter}
 
 -- ---- verdicts
 
@@ -249,17 +250,17 @@ neither (Some f) b e = cc
 
 -- a session that is made behind those before it is sound, and what it carries fits them
 part_fits : (n : ℕ) (adversary : AdversaryForm) (line : PartFault → List ℕ) (c : Netlist) (before : List Session) (form : SessionForm) (s : Session) → IsCircuit c → IsSessionForm n adversary (length before) form
-    → accepted s ≡ part_of line c form.prepared form.owners (groups_in n form.readers) before → IsSoundSession n s × CarriesFit before s
+    → accepted s ≡ part_of line c form.products form.owners (groups_in n form.readers) before → IsSoundSession n s × CarriesFit before s
 part_fits n adversary line c before form s valid named e =
     let groups : List Members = groups_in n form.readers in
     let owners : List Owner = map owner_of form.owners in
-    let made = was_none (part_fault c owners groups before) line s (record (session_of c owners groups) { prepared = form.prepared }) e in
+    let made = was_none (part_fault c owners groups before) line s (with_products form.products (session_of c owners groups)) e in
     let faults = neither (counts_fault (length c.inputs) (length owners) (length c.outputs) (length groups)) (carries_fault before c.inputs owners) made.0 in
     let counts = counts_agree (length c.inputs) (length owners) (length c.outputs) (length groups) faults.0 in
     let all : All (IsOwner n (length before)) form.owners = All-from_recursion (IsOwner n (length before)) form.owners named.owners in
     let read : All (λ (group : Members). group.parties ≡ n) groups = All-map (λ (group : Members). group.parties ≡ n) (λ mask. record { parties = n; mask = mask }) form.readers (λ k d l. refl) in (
       subst (IsSoundSession n) (sym made.1)
-          (sound_with n (session_of c owners groups) form.prepared []
+          (sound_with n (session_of c owners groups) (is_prepared form.products) (is_ahead form.products) []
           (sound_session c owners groups n valid counts.0 counts.1 (owners_among n (length before) form.owners groups all read)
           (All-from_recursion (λ (value : OutputValue). value.readers.mask < 2 ^ value.readers.parties) (output_values c.outputs groups)
           (outputs_within n c.outputs form.readers named.readers)))
@@ -317,7 +318,7 @@ keeping_sound parties sessions few fit sound s l =
     let l' : s < length sessions = omega (arith, l, length_keeping sessions) in
     let wired : All IsWired sessions = All-from_get_or IsWired sessions no_session (λ i li. (sound i li).wired) in
     subst (IsSoundSession parties) (sym (keeping_at sessions s l'))
-    (sound_with parties (session_at sessions s) (session_at sessions s).prepared (kept_from s sessions) (sound s l') (are_kept sessions fit s few wired))
+    (sound_with parties (session_at sessions s) (session_at sessions s).prepared (session_at sessions s).ahead (kept_from s sessions) (sound s l') (are_kept sessions fit s few wired))
 
 -- ---- the plan, and the job
 
