@@ -5,16 +5,16 @@ use Rattle.job_file.specs.declared.products.Products.{Products}
 use Rattle.job_file.specs.declared.products.Products.TheVariants.{Direct, Prepared, Ahead}
 
 -- they are prepared, in either order
-abbrev pub is_prepared : Products → Bool
-is_prepared Direct = false
-is_prepared Prepared = true
-is_prepared Ahead = true
+abbrev pub are_prepared : Products → Bool
+are_prepared Direct = false
+are_prepared Prepared = true
+are_prepared Ahead = true
 
 -- the masks of all come ahead of the products of masks
-abbrev pub is_ahead : Products → Bool
-is_ahead Direct = false
-is_ahead Prepared = false
-is_ahead Ahead = true
+abbrev pub come_ahead : Products → Bool
+come_ahead Direct = false
+come_ahead Prepared = false
+come_ahead Ahead = true
 
 -- the way that this text tells: direct, prepared or ahead
 unfoldable pub products_named : List ℕ → Option Products

@@ -28,7 +28,7 @@ use Rattle.job_file.specs.declared.layout.SessionLayout.{SessionLayout}
 use Rattle.job_file.specs.declared.layout.SessionLayout.TheVariants.{Gates, Expressions}
 use Rattle.job_file.specs.declared.products.Products.{Products}
 use Rattle.job_file.specs.declared.products.Products.TheVariants.{Direct, Prepared, Ahead}
-use Rattle.job_file.specs.Products.{is_prepared, products_named}
+use Rattle.job_file.specs.Products.{are_prepared, products_named}
 use Rattle.job_file.specs.Names.{field_text, field_kind, top_fields, session_fields, is_file_name, is_host, layout_of, are_short, are_own}
 use Rattle.job_file.specs.Forms as forms
 use Rattle.job_file.specs.Forms.{JobForm, SessionForm, AdversaryForm, by_formula, by_list, is_version_two, adversary_field, products_in, short_frames_in, own_views_in, owner_of, session_form, session_forms, adversary_form, job_form, mask_of}
@@ -114,7 +114,7 @@ layout_back (by_list masks) (Gates Bristol) h = refl
 layout_back (by_list masks) (Gates Ring) h = refl
 layout_back (by_list masks) Expressions h = refl
 
-products_known : (adversary : AdversaryForm) (products : Products) → HasChoice adversary (is_prepared products)
+products_known : (adversary : AdversaryForm) (products : Products) → HasChoice adversary (are_prepared products)
     → IfSome (products_data products) (λ d. is_known (map field_text (session_fields (two_of adversary))) (field_text ProductsField) ≡ true)
 unfolding field_text
 products_known adversary Direct h = tt

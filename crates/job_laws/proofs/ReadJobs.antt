@@ -29,7 +29,7 @@ use Rattle.job_file.specs.declared.owner.JobOwner.TheVariants.{Party}
 use Rattle.job_file.specs.Owners.{is_carry, owner_in, IsOwner}
 use Rattle.job_file.specs.declared.products.Products.{Products}
 use Rattle.job_file.specs.declared.products.Products.TheVariants.{Direct}
-use Rattle.job_file.specs.Products.{is_prepared, products_named}
+use Rattle.job_file.specs.Products.{are_prepared, products_named}
 use Rattle.job_file.specs.Names.{field_text, top_fields, session_fields, is_file_name, is_host, layout_of, are_short, are_own}
 use Rattle.job_file.specs.Forms.{JobForm, AdversaryForm, by_formula, by_list, integer, text, texts, items, lists, tables, is_version_two, adversary_field, products_in, short_frames_in, own_views_in, owner_of, session_form, session_forms, adversary_form, job_form, party_of, mask_of}
 use Rattle.job_file.specs.Faults.{is_no_party, bad_name, bad_in_lists, owner_fault, owners_fault, is_there, is_of_other_kind, is_within, required_fault, optional_fault, unknown_fault, version_fault, fields_fault, ring_fault, parties_fault, groups_fault, adversary_fault, count_fault, hosts_fault, port_fault, frames_fault, views_fault, session_fields_fault, session_values_fault, sessions_fault, job_fault, job_in}
@@ -127,15 +127,15 @@ no_choice adversary o told none = subst (λ o. HasChoice adversary (unwrap_or (c
     not_chosen (by_list masks) = tt
 
 -- no field tells of products in version 1
-products_fit : (adversary : AdversaryForm) (s : ℕ) (fields : Members) → unknown_fault (Some s) (session_fields (two_of adversary)) fields ≡ None → HasChoice adversary (is_prepared (unwrap_or (products_in fields) Direct))
+products_fit : (adversary : AdversaryForm) (s : ℕ) (fields : Members) → unknown_fault (Some s) (session_fields (two_of adversary)) fields ≡ None → HasChoice adversary (are_prepared (unwrap_or (products_in fields) Direct))
 unfolding unknown_fault products_in has_field field_text
 products_fit (by_list masks) s fields e = tt
 products_fit (by_formula formula) s fields e =
     let known = map_none (λ name. Unknown (Some s) name) (least_unknown (map field_text (session_fields false)) fields) e in
     direct (products_named (text ProductsField fields)) (not_known (map field_text (session_fields false)) (field_text ProductsField) fields refl known)
   where
-    direct : (told : Option Products) → get_member (field_text ProductsField) fields ≡ None → HasChoice (by_formula formula) (is_prepared (unwrap_or (cond (is_some (get_member (field_text ProductsField) fields)) told (Some Direct)) Direct))
-    direct told none = subst (λ (o : Option Data). HasChoice (by_formula formula) (is_prepared (unwrap_or (cond (is_some o) told (Some Direct)) Direct))) (sym none) tt
+    direct : (told : Option Products) → get_member (field_text ProductsField) fields ≡ None → HasChoice (by_formula formula) (are_prepared (unwrap_or (cond (is_some (get_member (field_text ProductsField) fields)) told (Some Direct)) Direct))
+    direct told none = subst (λ (o : Option Data). HasChoice (by_formula formula) (are_prepared (unwrap_or (cond (is_some o) told (Some Direct)) Direct))) (sym none) tt
 
 -- an owner is told, where there is no fault
 told_within : (P : JobOwner → Type 0) (o : Option JobOwner) (fault : JobFault) → (is_none o answers fault) ≡ None → IfSome o P → P (unwrap_or o (Party 0))

@@ -18,7 +18,7 @@ use Rattle.job_file.specs.declared.products.Products.{Products}
 use Rattle.job_file.specs.declared.products.Products.TheVariants.{Direct, Prepared, Ahead}
 use Rattle.job_file.specs.Names.{field_text, is_file_name, is_host}
 use Rattle.job_file.specs.Owners.{IsOwner}
-use Rattle.job_file.specs.Products.{is_prepared}
+use Rattle.job_file.specs.Products.{are_prepared}
 use Rattle.job_file.specs.Forms.{JobForm, SessionForm, AdversaryForm, by_formula, by_list}
 use Rattle.job_file.specs.Faults.{job_in}
 use Rattle.job_file.specs.declared.limits.TheConstants.{LAST_PORT, MOST_TOLERATED}
@@ -151,7 +151,7 @@ HasOwner _ _ = Unit {0}
 pub record IsSessionForm (n : ℕ) (adversary : AdversaryForm) (number : ℕ) (s : SessionForm) : Type 0 where
   pub circuit : is_file_name s.circuit ≡ true
   pub layout : HasLayout adversary s.layout
-  pub products : HasChoice adversary (is_prepared s.products)
+  pub products : HasChoice adversary (are_prepared s.products)
   pub owners : AllByRecursion (IsOwner n number) s.owners
   pub carries : AllByRecursion (HasOwner adversary) s.owners
   pub readers : AllByRecursion (λ mask. mask < 2 ^ n) s.readers

@@ -24,7 +24,7 @@ use Rattle.plan_faults.specs.declared.plan_fault.PlanFault.{PlanFault}
 use Rattle.plan_faults.specs.declared.plan_fault.PlanFault.TheVariants as plan_fault
 use Rattle.job_file.specs.Forms.{JobForm, SessionForm, AdversaryForm, by_formula, by_list}
 use Rattle.job_file.specs.declared.products.Products.{Products}
-use Rattle.job_file.specs.Products.{is_prepared, is_ahead}
+use Rattle.job_file.specs.Products.{are_prepared, come_ahead}
 use Rattle.job_file.specs.declared.owner.JobOwner.{JobOwner}
 use Rattle.job_file.specs.declared.owner.JobOwner.TheVariants.{Party, Carried}
 use Rattle.job_file.specs.declared.layout.SessionLayout.{SessionLayout}
@@ -123,7 +123,7 @@ owner_of (Carried session value) = owner.Carried session value
 
 -- the session, its products made in this way
 abbrev pub with_products : Products → Session → Session
-with_products products s = record s { prepared = is_prepared products; ahead = is_ahead products }
+with_products products s = record s { prepared = are_prepared products; ahead = come_ahead products }
 
 -- the session of a circuit behind those before it, its products made in this way, where the counts of owners and readers
 -- are the circuit's, and each carried value is one of an earlier session and of the same width

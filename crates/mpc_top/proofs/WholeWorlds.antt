@@ -49,7 +49,7 @@ use Rattle.job_file.specs.Faults.{job_in}
 use Rattle.job_file.specs.declared.layout.SessionLayout.{SessionLayout}
 use Rattle.job_file.specs.declared.layout.SessionLayout.TheVariants.{Gates, Expressions}
 use Rattle.job_file.specs.Owners.{IsOwner}
-use Rattle.job_file.specs.Products.{is_prepared, is_ahead}
+use Rattle.job_file.specs.Products.{are_prepared, come_ahead}
 use Rattle.job_laws.specs.Documents.{AreSessionForms, IsSessionForm, IsJobForm}
 use Rattle.job_laws.proofs.ReadJobs.{good_job}
 use Rattle.party_file.specs.Table.{PartyForm, party_in, party_in_fields, party_checks, party_given}
@@ -260,7 +260,7 @@ part_fits n adversary line c before form s valid named e =
     let all : All (IsOwner n (length before)) form.owners = All-from_recursion (IsOwner n (length before)) form.owners named.owners in
     let read : All (λ (group : Members). group.parties ≡ n) groups = All-map (λ (group : Members). group.parties ≡ n) (λ mask. record { parties = n; mask = mask }) form.readers (λ k d l. refl) in (
       subst (IsSoundSession n) (sym made.1)
-          (sound_with n (session_of c owners groups) (is_prepared form.products) (is_ahead form.products) []
+          (sound_with n (session_of c owners groups) (are_prepared form.products) (come_ahead form.products) []
           (sound_session c owners groups n valid counts.0 counts.1 (owners_among n (length before) form.owners groups all read)
           (All-from_recursion (λ (value : OutputValue). value.readers.mask < 2 ^ value.readers.parties) (output_values c.outputs groups)
           (outputs_within n c.outputs form.readers named.readers)))

@@ -32,7 +32,7 @@ use Rattle.share_world.proofs.MadeSessions.{made_has_values}
 use Rattle.output_text.specs.OutText.{no_output, output_value, wires_before, value_words}
 use Rattle.job_file.specs.Forms.{JobForm, SessionForm}
 use Rattle.job_file.specs.Faults.{job_in}
-use Rattle.job_file.specs.Products.{is_prepared, is_ahead}
+use Rattle.job_file.specs.Products.{are_prepared, come_ahead}
 use Rattle.job_file.specs.declared.layout.SessionLayout.{SessionLayout}
 use Rattle.job_file.specs.declared.layout.SessionLayout.TheVariants.{Expressions}
 use Rattle.job_walk.specs.Names as file_names
@@ -166,7 +166,7 @@ record IsOfProgram (files : Contents) (dir : List ℕ) (job : JobForm) (form : S
   of : IsProgramOf files dir job.bits form program
   owned : length (map owner_of form.owners) ≡ length (circuit job.bits program).inputs
   read : length (groups_in (length job.names) form.readers) ≡ length (circuit job.bits program).outputs
-  made : x ≡ made_of (circuit job.bits program) (map owner_of form.owners) (groups_in (length job.names) form.readers) (is_prepared form.products) (is_ahead form.products) []
+  made : x ≡ made_of (circuit job.bits program) (map owner_of form.owners) (groups_in (length job.names) form.readers) (are_prepared form.products) (come_ahead form.products) []
 
 of_program : (files : Contents) (dir : List ℕ) (job : JobForm) (before : List Session) (form : SessionForm) (x : Session) (layout : SessionLayout) → form.layout ≡ layout → layout ≡ Expressions
     → SessionAt files dir job before form (accepted x) → IsOfProgram files dir job form x
@@ -175,7 +175,7 @@ of_program files dir job before form x layout is expressions (bytes, there, (c, 
     let read : IsCircuitOf job.bits bytes c = subst (λ (l : SessionLayout). CircuitOf l form.circuit (length before) job.bits bytes (accepted c)) (is ∙ expressions) told in
     let owners : List Owner = map owner_of form.owners in
     let groups : List Members = groups_in (length job.names) form.readers in
-    let found = was_none (part_fault c owners groups before) _ x (made_of c owners groups (is_prepared form.products) (is_ahead form.products) []) e in
+    let found = was_none (part_fault c owners groups before) _ x (made_of c owners groups (are_prepared form.products) (come_ahead form.products) []) e in
     let faults = neither (counts_fault (length c.inputs) (length owners) (length c.outputs) (length groups)) (carries_fault before c.inputs owners) found.0 in
     let counts = counts_agree (length c.inputs) (length owners) (length c.outputs) (length groups) faults.0 in
     record {
@@ -183,7 +183,7 @@ of_program files dir job before form x layout is expressions (bytes, there, (c, 
       of = record { text = bytes; file = bytes_there (files (file_names.path_of dir form.circuit)) form.circuit bytes (sym there); is = read.is };
       owned = counts.0 ∙ ap (λ (c : Netlist). length c.inputs) read.made;
       read = counts.1 ∙ ap (λ (c : Netlist). length c.outputs) read.made;
-      made = found.1 ∙ ap (λ (c : Netlist). made_of c owners groups (is_prepared form.products) (is_ahead form.products) []) read.made;
+      made = found.1 ∙ ap (λ (c : Netlist). made_of c owners groups (are_prepared form.products) (come_ahead form.products) []) read.made;
     }
 
 -- ---- the job
@@ -204,10 +204,10 @@ session_writes files dir job form w s x kept some few earlier bits at o =
     let p = o.program in
     let outputs = length (draft_of p).outputs in
     let groups : List Members = groups_in (length job.names) form.readers in
-    let is : session w.plan s ≡ made_of (circuit job.bits p) (map owner_of form.owners) groups (is_prepared form.products) (is_ahead form.products) kept = at ∙ ap (λ (x : Session). record x { kept = kept }) o.made in (
+    let is : session w.plan s ≡ made_of (circuit job.bits p) (map owner_of form.owners) groups (are_prepared form.products) (come_ahead form.products) kept = at ∙ ap (λ (x : Session). record x { kept = kept }) o.made in (
       p,
       o.of,
-      writes w s (circuit job.bits p) (map owner_of form.owners) groups outputs (is_prepared form.products) (is_ahead form.products) kept earlier is (bits ∙ sym (of_bits job.bits p)) o.owned
+      writes w s (circuit job.bits p) (map owner_of form.owners) groups outputs (are_prepared form.products) (come_ahead form.products) kept earlier is (bits ∙ sym (of_bits job.bits p)) o.owned
           (o.read ∙ ap length (output_count job.bits p) ∙ length-replicate {A = ℕ} outputs 1) (output_count job.bits p)
           (program_value (2 ^ job.bits) p (first_values w (plain w) s)) (program_has_its_value job.bits o.of.text p some few (first_values w (plain w) s) o.of.is),
     )
