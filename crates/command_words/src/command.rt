@@ -290,8 +290,8 @@ fn command_of(words: &[String]) -> Option<Command<'_>>
 ///
 /// `Refused` where the words, after the first, are none of the forms `run DIR [--workers W] [--view GROUP]`,
 /// `check DIR`, `pair DIR --group GROUP`, `node DIR NAME`, `sample N` and `audit DIR`. The two options of `run`
-/// stand in either order, each at most once. DIR, GROUP and NAME aren't empty and don't begin with `-`. W is one or more
-/// digits with a value from 1 to 16, and N with one from 1 to 65,536.
+/// stand in either order, each at most once. DIR, GROUP and NAME aren't empty and don't begin with `-`. W is one or
+/// more digits with a value from 1 to 16, and N with one from 1 to 65,536.
 pub fn read_command(words: &[String]) -> Result<Command<'_>, Refused>
     ensures taken { IfOk result (λ command. command_of (map string_bytes words.now) ≡ Some (form_of command)) }
     ensures range { IfOk result IsInRange }

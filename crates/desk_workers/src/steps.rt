@@ -51,8 +51,8 @@ fn step_on(
     step_at(&mut cells, plan, desk)
 }
 
-// Steps the desk once, if it is not at its end, and answers whether it moved. It is out of line: a desk comes to it only
-// where it waits, and its code would crowd that of gates.
+// Steps the desk once, if it is not at its end, and answers whether it moved. It is out of line: a desk comes to it
+// only where it waits, and its code would crowd that of gates.
 #[inline(never)]
 fn goes_on(
     board: &Board<Promised, Box<Desk>>,

@@ -47,7 +47,8 @@ build of gates (product s t) =
     add (build of (build of gates s).gates t).gates Mul (build of gates s).wire
     (build of (build of gates s).gates t).wire 0
 
--- what some lines make: the wire of each name that is known, the gates, how many inputs, and the wires of the output lines
+-- what some lines make: the wire of each name that is known, the gates, how many inputs, and the wires of the output
+-- lines
 pub record Draft : Type 0 where
   pub of : List ℕ → Option Wire
   pub gates : List Step

@@ -1,4 +1,5 @@
--- What the line of a refusal tells of a fault of expressions: the line of the text, and the byte of the line or the text.
+-- What the line of a refusal tells of a fault of expressions: the line of the text, and the byte of the line or the
+-- text.
 use Rattle.std.specs.Prelude.{[], ◌++◌, codes}
 use Rattle.fault_table.specs.Tables.{Entry, fault, on_line, at_place}
 use Rattle.expr_circuit.specs.declared.fault.ExprFault.{ExprFault}

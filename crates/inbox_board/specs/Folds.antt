@@ -9,8 +9,8 @@ abbrev pub pushed : View → List ℕ → View
 pushed v [] = v
 pushed v (word ∷ words) = pushed (pushes v word) words
 
--- each word that a reader got is the one pushed at its place, a mark that it found is the one given, and a count that it
--- found after a mark is that of all words pushed
+-- each word that a reader got is the one pushed at its place, a mark that it found is the one given, and a count that
+-- it found after a mark is that of all words pushed
 pub record GotWhatWasPushed (words : List ℕ) (given : ℕ) (reader : View) : Type 0 where
   pub known : (place w : ℕ) → Knows reader.seen place w → (place < length words) × (slice_index words place ≡ w)
   pub mark : reader.noted ≢ 0 → reader.noted ≡ given

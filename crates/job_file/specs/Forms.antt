@@ -34,8 +34,8 @@ pub data AdversaryForm : Type 0 where
   by_formula : List ℕ → AdversaryForm
   by_list : List ℕ → AdversaryForm
 
--- what a job's file says: the ring, the parties, whom they tolerate, where a node finds its peers, whether frames between
--- nodes are short, whether each node writes its own view, and the sessions
+-- what a job's file says: the ring, the parties, whom they tolerate, where a node finds its peers, whether frames
+-- between nodes are short, whether each node writes its own view, and the sessions
 pub record JobForm : Type 0 where
   pub bits : ℕ
   pub names : List (List ℕ)

@@ -50,7 +50,8 @@ field_kind Readers = TextLists
 -- the fields of the top table, in a file of version 2 or not, of which one tells the tolerated groups
 abbrev pub top_fields : Bool → Field → List Field
 top_fields version_two adversary =
-    Version ∷ RingBits ∷ Parties ∷ adversary ∷ Hosts ∷ Port ∷ Session ∷ (if version_two then Frames ∷ Views ∷ [] else [])
+    Version ∷ RingBits ∷ Parties ∷ adversary ∷ Hosts ∷ Port ∷ Session
+    ∷ (if version_two then Frames ∷ Views ∷ [] else [])
 
 -- the fields of a session, in a file of version 2 or not
 abbrev pub session_fields : Bool → List Field

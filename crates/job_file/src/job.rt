@@ -27,8 +27,8 @@ pub struct JobSession {
     pub readers: Vec<Group>,
 }
 
-/// A job. Where the file does not give them, hosts are empty, the port is 0, frames name their messages, and nodes write no
-/// views.
+/// A job. Where the file does not give them, hosts are empty, the port is 0, frames name their messages, and nodes
+/// write no views.
 #[derive(Drop)]
 pub struct Job {
     pub ring: Ring,

@@ -105,8 +105,8 @@ given_before plan p s v = total v (λ u. if gives plan s p u then 1 else 0)
 abbrev pub input_count : Plan → ℕ → ℕ → ℕ
 input_count plan p s = given_before plan p s (length (owners (session plan s)))
 
--- party p deals: an input that it gives, or its part of a product, which of a prepared one is the product of its masks; a
--- carried input is dealt by nobody
+-- party p deals: an input that it gives, or its part of a product, which of a prepared one is the product of its masks;
+-- a carried input is dealt by nobody
 abbrev pub deals_in : Plan → ℕ → ℕ → Slot → Bool
 deals_in plan s p (Input v) = gives plan s p v
 deals_in plan s p (At_gate t) = is_direct (session plan s) t && has_pair (scheme plan) p

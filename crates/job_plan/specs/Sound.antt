@@ -11,8 +11,8 @@ use Rattle.job_plan.specs.Firsts.{starts_of, word_starts_of}
 use Rattle.plan_faults.specs.declared.limits.TheConstants.{MOST_MESSAGES, MOST_WORDS, MOST_SESSIONS}
 use Rattle.party_set.specs.declared.limits.TheConstants.{MOST_PARTIES, MOST_GROUPS}
 
--- a sharing in which products can be computed, sessions whose carried values fit those before them, and all is within the
--- limits but for the messages and the tape words; what sessions keep may be other than what later ones carry
+-- a sharing in which products can be computed, sessions whose carried values fit those before them, and all is within
+-- the limits but for the messages and the tape words; what sessions keep may be other than what later ones carry
 pub record IsOutline (plan : Plan) : Type 0 where
   pub some_bits : 0 < plan.bits
   pub bits : plan.bits ≤ 64
@@ -25,8 +25,8 @@ pub record IsOutline (plan : Plan) : Type 0 where
   pub sessions : (s : ℕ) → s < length plan.sessions → IsSoundSession plan.parties (session plan s)
   pub fit : AllFit plan.sessions
 
--- a sharing in which products can be computed, sessions that keep what later ones carry, and all is within the limits: ring,
--- parties, groups, sessions, messages, tape words of a party
+-- a sharing in which products can be computed, sessions that keep what later ones carry, and all is within the limits:
+-- ring, parties, groups, sessions, messages, tape words of a party
 pub record IsSound (plan : Plan) : Type 0 where
   pub some_bits : 0 < plan.bits
   pub bits : plan.bits ≤ 64

@@ -64,8 +64,9 @@ impl Plan {
     ghost use Rattle.job_plan.specs.Firsts.{first};
     ghost use Rattle.job_plan.specs.Limits.{IsPlanWithin, IsPlanRefusal};
 
-    /// The plan of these sessions, each of which keeps what those behind it carry from it. It is refused where it has more
-    /// than 1,048,576 messages, or a party would draw more tape words than that. Both are counted before any table is made.
+    /// The plan of these sessions, each of which keeps what those behind it carry from it. It is refused where it has
+    /// more than 1,048,576 messages, or a party would draw more tape words than that. Both are counted before any table
+    /// is made.
     pub fn make(
         alloc: Global,
         ring: Ring,
@@ -176,7 +177,8 @@ impl Plan {
         self.outline.multiplies(p)
     }
 
-    /// Of how many of the first `end` summands party `p` is the least holder. Of all, as many words as it draws for a mask.
+    /// Of how many of the first `end` summands party `p` is the least holder. Of all, as many words as it draws for a
+    /// mask.
     pub fn least_held(&self, p: u32, end: u32) -> u32
         requires { end ≤ length self.now.groups }
         ensures { result ≡ least_held self.now p end }
@@ -383,8 +385,8 @@ impl Plan {
         self.mask_place(p, s, k) + least_held(&self.outline, p, i)
     }
 
-    // The place on p's tape of the first word that it draws for the mask in slot k: all slots before it are masks or, where
-    // masks don't come ahead, the masks of products, and the products of these, three for each product.
+    // The place on p's tape of the first word that it draws for the mask in slot k: all slots before it are masks or,
+    // where masks don't come ahead, the masks of products, and the products of these, three for each product.
     fn mask_place(&self, p: u32, s: u32, k: u32) -> u32
         requires party { p < self.now.parties }
         requires session { s < length self.now.sessions }

@@ -95,8 +95,8 @@ impl BatchScan {
         Ok(())
     }
 
-    // The same as `begin`. Its operation tells which wires a gate reads, and is looked at only where one of those in its
-    // fields has the stamp of the batch.
+    // The same as `begin`. Its operation tells which wires a gate reads, and is looked at only where one of those in
+    // its fields has the stamp of the batch.
     #[inline(always)]
     fn begin_gate(&mut self, k: u32, gate: Gate, wiring: &Wiring) -> Result<(), AllocError>
         requires wiring { IsWiring wiring.now }

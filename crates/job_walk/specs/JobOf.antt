@@ -125,8 +125,8 @@ owner_of (Carried session value) = owner.Carried session value
 abbrev pub with_products : Products → Session → Session
 with_products products s = record s { prepared = are_prepared products; ahead = come_ahead products }
 
--- the session of a circuit behind those before it, its products made in this way, where the counts of owners and readers
--- are the circuit's, and each carried value is one of an earlier session and of the same width
+-- the session of a circuit behind those before it, its products made in this way, where the counts of owners and
+-- readers are the circuit's, and each carried value is one of an earlier session and of the same width
 abbrev pub part_of :
     (PartFault → List ℕ) → Netlist → Products → List JobOwner → List Members → List Session → Verdict Session
 part_of line circuit products owners readers before =

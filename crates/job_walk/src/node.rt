@@ -33,8 +33,8 @@ use party_set::Names;
 use refusal_text::name_line;
 use std::alloc::Global;
 
-/// What one party needs to run by itself: the names of all parties, where they are met, the form of their frames, whether
-/// each writes its own view, its number, the plan, its own inputs and tapes, and the digest of the job.
+/// What one party needs to run by itself: the names of all parties, where they are met, the form of their frames,
+/// whether each writes its own view, its number, the plan, its own inputs and tapes, and the digest of the job.
 #[derive(Drop)]
 pub struct NodeJob {
     pub names: Names,

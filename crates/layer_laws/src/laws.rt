@@ -6,8 +6,8 @@ ghost use Rattle.job_session.specs.Counts.{prepared_products};
 ghost use Rattle.job_session.specs.Batches.{batches};
 ghost use Rattle.layer_laws.specs.Layers.{JoinsLast, StandsByLayers, depth, preparing_batches};
 
-/// Where no product is prepared and no gate stands behind one of a later layer, there is at most a batch for the inputs,
-/// one for each product of the longest path, and one for the outputs.
+/// Where no product is prepared and no gate stands behind one of a later layer, there is at most a batch for the
+/// inputs, one for each product of the longest path, and one for the outputs.
 pub fn batches_are_few()
     ensures { (s : Session) → IsWired s → s.prepared ≡ false → StandsByLayers s → batches s ≤ depth s + 2 }
 {}

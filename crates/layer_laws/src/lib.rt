@@ -1,4 +1,5 @@
-//! That the batches of a circuit whose gates stand layer by layer are few, its products prepared or not. No code that runs.
+//! That the batches of a circuit whose gates stand layer by layer are few, its products prepared or not. No code that
+//! runs.
 #![tactic(auto)]
 
 mod laws;

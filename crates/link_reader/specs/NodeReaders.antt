@@ -82,8 +82,8 @@ pub record SaidWhatItCould (n : Node) (words : ℕ → List ℕ) (kept : Key →
   pub stops : StopsAfter n (λ q. length (words q)) k
 
 -- a party stopped at a fault: of what its first k instructions say it said a first part, whatever words are still to
--- come, and all of it but where a send failed; and they take only words that were read, or that it kept for itself as it
--- computes them. Where no send failed and all readers were started, it said what it could
+-- come, and all of it but where a send failed; and they take only words that were read, or that it kept for itself as
+-- it computes them. Where no send failed and all readers were started, it said what it could
 pub record StoppedShort (n : Node) (before after : LinksReading) (fault : NodeFault) : Type 0 where
   pub k : ℕ
   pub words : ℕ → List ℕ

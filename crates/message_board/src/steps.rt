@@ -35,8 +35,8 @@ pub struct View<W> {
     pub seen: LinkedList<(u32, u64)>,
     // The numbers of the cells that its own posts filled.
     pub mine: LinkedList<u32>,
-    // What it looked at in vain, by number, each with what it found there: the full words in which a flag was 0, and the
-    // turn words of slots that were out, whose numbers are counted on from the number of cells.
+    // What it looked at in vain, by number, each with what it found there: the full words in which a flag was 0, and
+    // the turn words of slots that were out, whose numbers are counted on from the number of cells.
     pub looked: LinkedList<(u32, u64)>,
     // Within a post, the number whose value it has stored.
     pub stored: LinkedList<u32>,

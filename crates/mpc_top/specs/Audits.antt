@@ -13,8 +13,8 @@ use Rattle.job_walk.specs.JobOf.{Contents, file_at}
 use Rattle.mpc_top.specs.WholeJobs.{JobAt}
 
 module _ (names : List (List ℕ)) (see : ℕ → List (Key × ℕ)) (text : List ℕ) where
-  -- The line of the first fault of a text, where the group of each mask sees these messages. If that is a wrong word, the
-  -- wanted one is the word of the line's message, and all lines before it are right.
+  -- The line of the first fault of a text, where the group of each mask sees these messages. If that is a wrong word,
+  -- the wanted one is the word of the line's message, and all lines before it are right.
   pub record IsViewRefusal (line : List ℕ) : Type 0 where
     pub fault : CheckFault
     pub line_is : line ≡ view_line fault

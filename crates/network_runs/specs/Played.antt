@@ -19,8 +19,8 @@ use Rattle.node_run.specs.NodeRuns as node_runs
 use Rattle.node_run.specs.Remains.{party_at}
 use Rattle.network_laws.specs.Networks.{Network, IsNetwork, IsPipe, IsRight, RanThrough, node}
 
--- a world, a digest and a form of frames; and of each party what its links and its spawner show before its run and after it, and what it
--- answered
+-- a world, a digest and a form of frames; and of each party what its links and its spawner show before its run and
+-- after it, and what it answered
 pub record Played : Type 0 where
   pub world : World
   pub digest : List ℕ

@@ -40,7 +40,8 @@ pub record Carries (net : Network) (group : ℕ) (text : ℕ → ℕ → List �
 abbrev pub CarriesTheView : Network → ℕ → Type 0
 CarriesTheView net group = Carries net group (λ p q. on_wire (framing_of net) net.digest p q (view net.world group))
 
--- a network for each choice of the others' tapes, of the same inputs, digest and form of frames, in which all ran to their end
+-- a network for each choice of the others' tapes, of the same inputs, digest and form of frames, in which all ran to
+-- their end
 pub record AreNetworksOf (w : World) (form : FrameForm) (digest : List ℕ) (group : ℕ) (nets : List (List ℕ) → Network)
     (texts : List (List ℕ) → ℕ → ℕ → List ℕ) : Type 0 where
   pub worlds : (tapes : List (List ℕ)) → IsChoice w group tapes → (nets tapes).world ≡ with_tapes w tapes

@@ -19,8 +19,8 @@ pub fn wires_carry_the_view()
     ensures { (net : Network) → IsNetwork net → AllRanThrough net → (group : ℕ) → CarriesTheView net group }
 {}
 
-/// Over all tapes that the parties outside a tolerated group may draw, what its wires carry passes each test as often as
-/// what a simulator makes of the plan, the members' inputs, the outputs that they read and their tapes.
+/// Over all tapes that the parties outside a tolerated group may draw, what its wires carry passes each test as often
+/// as what a simulator makes of the plan, the members' inputs, the outputs that they read and their tapes.
 pub fn wires_are_simulated()
     ensures { WiresAreSimulated }
 {}

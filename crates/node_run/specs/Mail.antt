@@ -94,9 +94,9 @@ pub record IsRead (x : Mail) (m v : ℕ) : Type 0 where
 abbrev pub place_to : Plan → ℕ → ℕ → ℕ
 place_to plan p m = length (filter (goes (message plan m).sender p) (take m (messages plan)))
 
--- there is an outlet and an inbox for each peer and a cell for each message; each message of a peer to the party has its
--- place, and each word that is kept of one was read there. The word of a message that stays with the party is in its cell
--- alone
+-- there is an outlet and an inbox for each peer and a cell for each message; each message of a peer to the party has
+-- its place, and each word that is kept of one was read there. The word of a message that stays with the party is in
+-- its cell alone
 pub record IsMail (x : Mail) : Type 0 where
   pub sound : IsSound x.plan
   pub me : x.me < x.plan.parties
@@ -174,8 +174,8 @@ pub record LookedAtMark (before : Mail) (m : ℕ) (answer : Option Bool) (after 
       ≡ notes (box_of before (message before.plan m).sender).view found
   pub others : (q : ℕ) → q ≢ before.me → q ≢ (message before.plan m).sender → box_of after q ≡ box_of before q
 
--- the word of message m, which is of a peer, won't come: its sender's reader ended by a fault, and a look after that found
--- how many words it had pushed, which are too few
+-- the word of message m, which is of a peer, won't come: its sender's reader ended by a fault, and a look after that
+-- found how many words it had pushed, which are too few
 pub record NeverComes (x : Mail) (m : ℕ) : Type 0 where
   pub peer : (message x.plan m).sender ≢ x.me
   pub ended : (box_of x (message x.plan m).sender).view.noted ≡ 2

@@ -48,8 +48,8 @@ pub record IsFirstUnstarted (n : Node) (before after : LinksReading) (q : ℕ) :
   pub itself : Unread n before after q ⊎ WasRead n before after q
   pub above : (r : ℕ) → IsPeer n r → q < r → Unread n before after r
 
--- the fault is that of the least peer from which not all came, but where a send failed; or it names the first peer whose
--- reader wasn't started
+-- the fault is that of the least peer from which not all came, but where a send failed; or it names the first peer
+-- whose reader wasn't started
 abbrev pub IsFirst : Node → LinksReading → LinksReading → NodeFault → Type 0
 IsFirst n before after (Link q) =
     Rose (out_to n before q).faults (out_to n after q).faults ⊎ GaveAllBelow n before after q

@@ -1,5 +1,5 @@
-//! The cells of a node: a post keeps its word, and sends it to a peer in a frame. A take gives the word that is kept, or
-//! looks into the sender's inbox. What a party posts to itself stays in its cells.
+//! The cells of a node: a post keeps its word, and sends it to a peer in a frame. A take gives the word that is kept,
+//! or looks into the sender's inbox. What a party posts to itself stays in its cells.
 ghost use Rattle.std.specs.Prelude.{◌≡◌, ◌≢◌, ◌<◌};
 ghost use Rattle.node_talk.specs.PeerLinks.{place_among};
 ghost use Rattle.node_run.specs.Mail.{SentTo};

@@ -48,8 +48,9 @@ fn advance<'p, O: Outlet>(plan: &Plan, desk: &mut Desk, cells: &mut NodeCells<'p
     }
 }
 
-// Waits for the word of this message of a peer, once all that was said went out. It answers whether the session goes on: not
-// where that failed, nor where the reader of the word's sender ended by a fault, and a look after that didn't find it.
+// Waits for the word of this message of a peer, once all that was said went out. It answers whether the session goes
+// on: not where that failed, nor where the reader of the word's sender ended by a fault, and a look after that didn't
+// find it.
 fn wait_for<'p, O: Outlet, R: Wait>(
     rt: &R,
     cells: &mut NodeCells<'p, O>,

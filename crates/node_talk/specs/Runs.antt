@@ -37,8 +37,8 @@ word_kept r m = slice_index_or r.words m None
 abbrev pub output_of : Results → ℕ → ℕ → Option ℕ
 output_of r s o = slice_index_or (slice_index_or r.outputs s []) o None
 
--- it has the words that it got, and the words that it sent and the outputs, which it computes from those, and no others; a
--- message that stays with it is of both kinds
+-- it has the words that it got, and the words that it sent and the outputs, which it computes from those, and no
+-- others; a message that stays with it is of both kinds
 pub record IsDone (n : Node) (got : Key → ℕ) (r : Results) : Type 0 where
   pub message_count : length r.words ≡ length (messages n.world.plan)
   pub session_count : length r.outputs ≡ length n.world.plan.sessions

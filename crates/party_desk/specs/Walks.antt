@@ -100,8 +100,8 @@ pub record Walks {W : Type 0} (given : Given) (seat : Sitting W) (d : Desk) (sea
   pub seats : seat'.view.seats ≡ seat.view.seats
   pub out : seat'.view.out ≡ seat.view.out
 
--- the same, for a half of a slot: it went on where it came to the end of that, and else nothing comes next that the desk
--- computes of a gate by itself, nor a take of a product whose word the seat knows
+-- the same, for a half of a slot: it went on where it came to the end of that, and else nothing comes next that the
+-- desk computes of a gate by itself, nor a take of a product whose word the seat knows
 pub record WentOn {W : Type 0} (given : Given) (seat : Sitting W) (d : Desk) (seat' : Sitting W) (d' : Desk)
     (goes : Bool) : Type 0 where
   pub walks : Walks given seat d seat' d'

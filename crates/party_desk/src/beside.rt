@@ -11,8 +11,8 @@ impl Desk {
     ghost use Rattle.message_board.specs.Seats.{IsSeatOf};
     ghost use Rattle.party_desk.specs.Walks.{CanWalk, ForWalking, IsBeside, Walks, WentOn};
 
-    /// In a slot that is of no gate, the instructions that come next, until one is of a gate or waits. It answers whether
-    /// there were any. It is out of line, since direct sessions have few such slots.
+    /// In a slot that is of no gate, the instructions that come next, until one is of a gate or waits. It answers
+    /// whether there were any. It is out of line, since direct sessions have few such slots.
     #[inline(never)]
     pub(crate) fn walk_beside<W: Promise, T: SlotItem<W>>(
         &mut self,

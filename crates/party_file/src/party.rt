@@ -38,8 +38,8 @@ fn read_fields(
     Ok(PartyData { inputs, tapes })
 }
 
-/// What the bytes of the file of a party of the plan give: words for the input wires that the party gives, and a tape for
-/// each session.
+/// What the bytes of the file of a party of the plan give: words for the input wires that the party gives, and a tape
+/// for each session.
 ///
 /// # Errors
 ///

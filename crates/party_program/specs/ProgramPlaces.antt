@@ -106,7 +106,8 @@ session_of own = session own.plan.now own.session
 abbrev pub HasNoneBeside : Session → Type 0
 HasNoneBeside x = session_slots x ≡ length (owners x) + length x.gates + length (readers x) + length x.kept
 
--- the first message by which session r keeps what input wire v of session s carries from it is listed for the wire's slot
+-- the first message by which session r keeps what input wire v of session s carries from it is listed for the wire's
+-- slot
 abbrev pub IsReceived : {S : Type 0} → Plan → ℕ → IndexMap ℕ ℕ S → ℕ → ℕ → Type 0
 IsReceived plan s received v r =
     get nat_eq received (slot_number plan s (Input v)) ≡ Some (first plan r (keeping_slot plan s v r))

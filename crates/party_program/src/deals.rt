@@ -231,8 +231,8 @@ fn push_prepared_gates(
     }
 }
 
-// Adds those before three slots: in each of the first two the party has so many instructions and no deal, and in the last
-// one so many of both.
+// Adds those before three slots: in each of the first two the party has so many instructions and no deal, and in the
+// last one so many of both.
 #[inline(always)]
 fn push_three(
     own: &SessionSteps<'_>,

@@ -6,8 +6,8 @@ use indexmap::IndexMap;
 use job_plan::Plan;
 use std::alloc::{AllocError, Global};
 
-/// By the slot of each input wire that session `s` carries: the number of the first message by which the earlier session
-/// keeps it.
+/// By the slot of each input wire that session `s` carries: the number of the first message by which the earlier
+/// session keeps it.
 pub(crate) fn list_received(
     alloc: Global,
     plan: &Plan,

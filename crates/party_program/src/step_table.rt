@@ -16,8 +16,8 @@ use job_plan::{Pattern, Plan};
 use std::alloc::{AllocError, Global};
 
 /// The steps of a party in the heads of a session's slots, or in their tails, for each pattern: of a linear gate, of a
-/// product, of what a prepared product needs more, of a wire that is kept or received, of a value by its dealer, and of an
-/// output by its readers.
+/// product, of what a prepared product needs more, of a wire that is kept or received, of a value by its dealer, and of
+/// an output by its readers.
 #[derive(Drop)]
 pub(crate) struct StepTable {
     silent: StepList,
@@ -125,8 +125,8 @@ impl StepTable {
         self.joined.as_slice()
     }
 
-    /// How many steps the party has in a slot of a linear gate, of a product that is dealt, or of what a prepared product
-    /// needs more; of another pattern it tells nothing.
+    /// How many steps the party has in a slot of a linear gate, of a product that is dealt, or of what a prepared
+    /// product needs more; of another pattern it tells nothing.
     pub(crate) fn gate_count(&self, pattern: Pattern) -> usize
         ensures { (plan : plans.Plan) (p s : ℕ) (half : halves.Half) → AreSteps plan p s half self.now → 0 < result
             → result ≡ length (steps plan p half pattern) }

@@ -1,5 +1,5 @@
--- That a session is prepared before any input: its masks and the products of masks stand before its inputs, and no input
--- changes their words.
+-- That a session is prepared before any input: its masks and the products of masks stand before its inputs, and no
+-- input changes their words.
 use Rattle.std.specs.Prelude.{◌≡◌, ℕ, ◌<◌, Bool, true, false, nat_lt}
 use Rattle.job_session.specs.Sessions.{Session, Slot, session_slot, session_slots}
 use Rattle.job_session.specs.Sessions.Slot.{Mask, Mask_product}
@@ -35,8 +35,8 @@ PreparedWordsStay =
 abbrev pub SameCameEarly : Plan → ℕ → (Key → ℕ) → (Key → ℕ) → Type 0
 SameCameEarly plan s got came = (key : Key) → key.session ≡ s → IsPrepared plan key → got key ≡ came key
 
--- so each party has its word from its tape and from what came in this preparation, whatever the inputs are, and whatever
--- came in other slots and sessions
+-- so each party has its word from its tape and from what came in this preparation, whatever the inputs are, and
+-- whatever came in other slots and sessions
 abbrev pub PreparedAlone : Type 0
 PreparedAlone =
     (w : World) (inputs : InputLists) (p : ℕ) (got came : Key → ℕ) (key : Key) → IsPrepared w.plan key

@@ -8,7 +8,8 @@ use Rattle.party_program.specs.declared.program.Instruction.TheVariants.{Post, T
 use Rattle.party_program.specs.Programs.{at, post}
 use Rattle.program_laws.specs.Once.{IsSameOrLater, take_session, take_slot}
 
--- message n is there, comes from a party, and is taken in session s, in its own slot or behind the session that it is of
+-- message n is there, comes from a party, and is taken in session s, in its own slot or behind the session that it is
+-- of
 pub record ComesTo (plan : Plan) (s n : ℕ) : Type 0 where
   pub number : n < length (messages plan)
   pub sender : (message plan n).sender < plan.parties

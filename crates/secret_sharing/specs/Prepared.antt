@@ -13,7 +13,8 @@ masked s x a i = difference s.modulus (x i) (a i)
 abbrev pub sum_of : Scheme → (ℕ → ℕ) → ℕ
 sum_of s x = total s.shares x % s.modulus
 
--- summand i of the product, where d is what x has more than a, and e what y has more than b: c + d b + e a, and d e once
+-- summand i of the product, where d is what x has more than a, and e what y has more than b: c + d b + e a, and d e
+-- once
 abbrev pub joined_summand : ℕ → ℕ → ℕ → (ℕ → ℕ) → (ℕ → ℕ) → (ℕ → ℕ) → ℕ → ℕ
 joined_summand q d e a b c i = (c i + d * b i + e * a i + (if nat_eq i 0 then d * e else 0)) % q
 

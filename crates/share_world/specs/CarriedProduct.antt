@@ -1,4 +1,5 @@
--- The worked job of two products, in the ring of 8 bits: nobody opens 5 times 7, and a second session multiplies it by 3.
+-- The worked job of two products, in the ring of 8 bits: nobody opens 5 times 7, and a second session multiplies it by
+-- 3.
 use Rattle.std.specs.Prelude.{◌≡◌, false, [], ◌∷◌, map}
 use Rattle.circuit_model.specs.declared.gate.Operation.TheVariants.{Mul}
 use Rattle.job_session.specs.declared.values.Owner.TheVariants.{Party, Carried}

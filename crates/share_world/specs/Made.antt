@@ -10,7 +10,8 @@ use Rattle.job_plan.specs.Plans.{session}
 use Rattle.share_world.specs.Worlds.{World, first_values, plain}
 use Rattle.share_world.specs.Solutions.{GatesInOrder}
 
--- the session of a circuit, whose products may be prepared, their masks ahead or in turn, and whose output wires may be kept
+-- the session of a circuit, whose products may be prepared, their masks ahead or in turn, and whose output wires may be
+-- kept
 abbrev pub made_of : Netlist → List Owner → List Members → Bool → Bool → List KeptWire → Session
 made_of c owners readers prepared ahead kept =
     record (session_of c owners readers) { prepared = prepared; ahead = ahead; kept = kept }
@@ -21,8 +22,8 @@ MadeIsCircuit =
     (c : Netlist) (owners : List Owner) (readers : List Members) (prepared ahead : Bool) (kept : List KeptWire)
     → IsCircuit c → length owners ≡ length c.inputs → GatesInOrder (made_of c owners readers prepared ahead kept)
 
--- the plain values of the session are the values of the circuit's wires, where its input wires have their inputs, or the
--- plain values of the wires that they carry
+-- the plain values of the session are the values of the circuit's wires, where its input wires have their inputs, or
+-- the plain values of the wires that they carry
 abbrev pub MadeHasValues : World → ℕ → Type 0
 MadeHasValues w s =
     (c : Netlist) (owners : List Owner) (readers : List Members) (prepared ahead : Bool) (kept : List KeptWire)

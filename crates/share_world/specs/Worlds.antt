@@ -103,8 +103,8 @@ values_after w before s = values (2 ^ w.plan.bits) (gate (session w.plan s)) (fi
 
 -- ---- all sessions, one after another
 
--- what the wires of the first n sessions end with, by session, and `none` for any other session, where `ends before s` is
--- what those of session s end with behind such earlier ones
+-- what the wires of the first n sessions end with, by session, and `none` for any other session, where `ends before s`
+-- is what those of session s end with behind such earlier ones
 abbrev pub ends_before : {Ends : Type 0} → (ℕ → Ends) → ((ℕ → Ends) → ℕ → Ends) → ℕ → ℕ → Ends
 ends_before none ends zero = none
 ends_before none ends (suc n) = set_at (ends_before none ends n) n (ends (ends_before none ends n) n)
@@ -154,8 +154,8 @@ abbrev pub masked_summand : World → ℕ → ℕ → Side → ℕ → ℕ
 masked_summand w s t side =
     masked (scheme w.plan) (summands (run_of w s) t (operand (gate (session w.plan s) t) side)) (mask w s t side)
 
--- a summand of the sender's deal, of a mask, of a kept wire, or of what is opened: a wire, or what one has more than its
--- mask
+-- a summand of the sender's deal, of a mask, of a kept wire, or of what is opened: a wire, or what one has more than
+-- its mask
 abbrev pub word_in : World → Key → Slot → ℕ
 word_in w key (Output o) = end_summands w key.session (output_wire (session w.plan key.session) o) key.share
 word_in w key (Mask t side) = mask w key.session t side key.share

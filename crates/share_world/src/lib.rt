@@ -16,9 +16,9 @@ pub fn sum_is_plain()
     ensures { (w : World) → IsWorld w → SumIsPlain w }
 {}
 
-/// Over valid circuits, which may carry wires from one session to a later one, the summands of the wires and of the deals
-/// solve the sharing equations (Maurer 2006) of all sessions at once, and no others do. A carried wire has the value of the
-/// wire that it carries.
+/// Over valid circuits, which may carry wires from one session to a later one, the summands of the wires and of the
+/// deals solve the sharing equations (Maurer 2006) of all sessions at once, and no others do. A carried wire has the
+/// value of the wire that it carries.
 pub fn equations_have_one_solution()
     ensures solves { (w : World) → IsSolution w }
     ensures alone { (w : World) → OnlySolution w }

@@ -30,8 +30,8 @@ with_tapes w tapes = record { plan = w.plan; inputs = w.inputs; tapes = tapes }
 abbrev pub tape_of : World → ℕ → List ℕ
 tape_of w p = slice_index_or w.tapes p []
 
--- by how much the value of wire v of session s before gate t grows with the other inputs, of this session and of those that
--- it carries from
+-- by how much the value of wire v of session s before gate t grows with the other inputs, of this session and of those
+-- that it carries from
 abbrev pub delta : World → InputLists → ℕ → ℕ → ℕ → ℕ
 delta w other s t v =
     difference (2 ^ w.plan.bits) (value_before (with_inputs w other) s t v) (value_before w s t v)

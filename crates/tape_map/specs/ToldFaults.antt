@@ -17,5 +17,6 @@ told_map_fault NotTolerated = fault 1 (codes "NotTolerated") []
 told_map_fault (InputDiffers session wire first second) =
     fault 2 (codes "InputDiffers") (on_wire session wire ++ differing first second)
 told_map_fault (OutputDiffers session wire recipient first second) =
-    fault 3 (codes "OutputDiffers") (on_wire session wire ++ (codes "recipient", Party recipient) ∷ differing first second)
+    fault 3 (codes "OutputDiffers")
+    (on_wire session wire ++ (codes "recipient", Party recipient) ∷ differing first second)
 told_map_fault Memory = fault 0 (codes "Memory") []

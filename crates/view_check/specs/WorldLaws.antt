@@ -26,8 +26,8 @@ abbrev pub AllSeeAll : Type 0
 AllSeeAll =
     (w : World) → IsWhole w → view w (all_parties w.plan) ≡ map (λ key. (key, word w key)) (messages w.plan)
 
--- each message is in the view of its sender alone, and of its receiver alone: where each party's own view is right, every
--- word is
+-- each message is in the view of its sender alone, and of its receiver alone: where each party's own view is right,
+-- every word is
 abbrev pub OwnViewsHaveAll : Type 0
 OwnViewsHaveAll =
     (w : World) (n : ℕ) → IsWhole w → n < length (messages w.plan)

@@ -176,8 +176,8 @@ fn judge(
 }
 
 /// How many messages the group of a text's first line sees, where the text has the lines of that group's view. `tapes`
-/// has for each party the words that it draws, all sessions in order. It goes through the text once and through the plan
-/// once, with the summands of one session at a time and of the wires that later ones carry.
+/// has for each party the words that it draws, all sessions in order. It goes through the text once and through the
+/// plan once, with the summands of one session at a time and of the wires that later ones carry.
 ///
 /// # Errors
 ///

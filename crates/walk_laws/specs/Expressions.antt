@@ -25,8 +25,8 @@ pub record WritesValues (w : World) (s : ℕ) (values : List ℕ) : Type 0 where
   pub words : (v : ℕ) → v < length values → value_words w s v ≡ slice_index values v ∷ []
 
 -- Of a job whose files are accepted, each session of expressions has a program for its file, and the words that a run
--- writes are the values of the program's output lines at those of its input wires: the inputs of the files, or the values
--- of the wires that it carries.
+-- writes are the values of the program's output lines at those of its input wires: the inputs of the files, or the
+-- values of the wires that it carries.
 abbrev pub RunsWriteValues : Type 0
 RunsWriteValues =
     (files : Contents) (dir : List ℕ) (asked : Option (List ℕ)) (job : JobForm) (whole : WholeJob)

@@ -120,7 +120,8 @@ fn excess(ring: Ring, x: &[u64], mask: &[u64]) -> u64
     sum
 }
 
-/// Sets `row` to the summands of the prepared product of two wires, from those of their masks and of the masks' product.
+/// Sets `row` to the summands of the prepared product of two wires, from those of their masks and of the masks'
+/// product.
 pub(crate) fn joined_into(
     plan: &Plan,
     x: &[u64],

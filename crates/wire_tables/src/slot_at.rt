@@ -2,8 +2,8 @@
 
 use crate::summands::SummandTable;
 
-/// A slot of a session, with the summands of the session's wires and where the parties' deals of the slot begin on their
-/// tapes.
+/// A slot of a session, with the summands of the session's wires and where the parties' deals of the slot begin on
+/// their tapes.
 #[derive(Clone, Copy)]
 pub struct SlotAt<'a> {
     /// The session's number.

@@ -105,8 +105,8 @@ fn unset_rows(alloc: Global, plan: &Plan, s: u32) -> Result<Vec<Vec<u64>>, Alloc
     Ok(rows)
 }
 
-// A slot of a session, and what is there before it: what is given on the session's inputs, what is carried of the sessions
-// before, where the parties' next words begin on their tapes, and the rows that the slots before have set.
+// A slot of a session, and what is there before it: what is given on the session's inputs, what is carried of the
+// sessions before, where the parties' next words begin on their tapes, and the rows that the slots before have set.
 #[derive(Clone, Copy)]
 struct BeforeSlot<'a> {
     session: u32,
@@ -154,8 +154,8 @@ fn slot_row(
     }
 }
 
-// Sets `row` to the summands of input wire `v`, whose slot this is: as its giver deals them, or those of the wire that it
-// carries.
+// Sets `row` to the summands of input wire `v`, whose slot this is: as its giver deals them, or those of the wire that
+// it carries.
 fn input_row(
     world: &WorldData<'_>,
     before: &BeforeSlot<'_>,

@@ -11,8 +11,8 @@ use std::sync::Wait;
 use std::test::Fail;
 use std::thread::Threads;
 
-/// The words of a call, its files, the links of c's peers, and which reader is not started; then its status, what it writes,
-/// and how many bytes of what c says the peers take.
+/// The words of a call, its files, the links of c's peers, and which reader is not started; then its status, what it
+/// writes, and how many bytes of what c says the peers take.
 #[derive(Drop)]
 pub struct Call {
     pub words: &'static [&'static str],

@@ -59,7 +59,8 @@ fn expect_failed<R: Abort + Threads + Wait + Sync>(
     }
 }
 
-/// Pieces of a length, how many reads of them bring the hello and the inputs of a peer, and how many bring all of a, and of b.
+/// Pieces of a length, how many reads of them bring the hello and the inputs of a peer, and how many bring all of a,
+/// and of b.
 struct Reads {
     piece: usize,
     inputs: u64,
@@ -117,8 +118,9 @@ fn each_read_that_fails_is_told(rt: HostRuntime) -> Result<(), Fail> {
     Ok(())
 }
 
-/// A peer, which of the sends and flushes to it fails, how many bytes it has room for, and how many a and b take. A hello, a
-/// flush, two frames and a flush go to each; those to a and to b by turns, the first frame to b before that to a.
+/// A peer, which of the sends and flushes to it fails, how many bytes it has room for, and how many a and b take. A
+/// hello, a flush, two frames and a flush go to each; those to a and to b by turns, the first frame to b before that to
+/// a.
 type Send = (usize, u64, usize, [usize; 2]);
 
 /// Each of these calls fails before its first byte, and each send after five.
@@ -155,8 +157,8 @@ fn each_send_and_flush_that_fails_is_told(rt: HostRuntime) -> Result<(), Fail> {
     Ok(())
 }
 
-/// The words of a node, how many bytes a says, which send to b fails, and which start of a reader is refused; then what is told,
-/// and how many bytes a and b take.
+/// The words of a node, how many bytes a says, which send to b fails, and which start of a reader is refused; then what
+/// is told, and how many bytes a and b take.
 type Faults = (
     &'static [&'static str],
     usize,
@@ -166,7 +168,8 @@ type Faults = (
     [usize; 2],
 );
 
-/// A failed send is told before a refused start, and that before a fault of an earlier peer. The net has no links for a.
+/// A failed send is told before a refused start, and that before a fault of an earlier peer. The net has no links for
+/// a.
 const FAULTS: [Faults; 6] = [
     (OF_C, ALL, NEVER, 0, "fault thread peer=a\n", [38, 38]),
     (OF_C, ALL, NEVER, 1, "fault thread peer=b\n", [38, 38]),

@@ -14,8 +14,8 @@ pub const NEVER: u64 = u64::MAX;
 /// A length of pieces in which all comes at once.
 pub const ALL: usize = 200;
 
-/// The link of a peer: how many bytes of its talk it says, in pieces of at most how many; which read of it and which send or
-/// flush to it fails, counted from 0; and how many bytes it takes.
+/// The link of a peer: how many bytes of its talk it says, in pieces of at most how many; which read of it and which
+/// send or flush to it fails, counted from 0; and how many bytes it takes.
 #[derive(Clone, Copy)]
 pub struct Link {
     pub says: usize,

@@ -1,5 +1,5 @@
-//! What the peers a and b of c say to it in the product, and hear of it: hellos, with the digest of the job, by Python's
-//! `hashlib`, on two lines, and frames, whose words were worked out by hand.
+//! What the peers a and b of c say to it in the product, and hear of it: hellos, with the digest of the job, by
+//! Python's `hashlib`, on two lines, and frames, whose words were worked out by hand.
 
 /// What a and b say.
 pub const SAID_TO_C: [&[u8]; 2] = [

@@ -14,7 +14,8 @@ use std::time::{Clock, Duration};
 /// The most milliseconds that a worker is held, which a machine with much other work keeps too.
 const MOST_MILLISECONDS: u32 = 40_000;
 
-/// Holds each worker in its first call until all were called, and worker 0 until worker 1 was called for some desks as well.
+/// Holds each worker in its first call until all were called, and worker 0 until worker 1 was called for some desks as
+/// well.
 #[derive(Drop)]
 struct Held<'r, R> {
     rt: &'r R,
@@ -79,8 +80,8 @@ impl<R: Clock + Sync> Pace for Held<'_, R> {
     }
 }
 
-/// How many workers run a job, and the desks for which worker 1 is called while worker 0 is held; the job's files, and what is
-/// written.
+/// How many workers run a job, and the desks for which worker 1 is called while worker 0 is held; the job's files, and
+/// what is written.
 type Together = (u32, u64, &'static [&'static str], Texts, &'static str);
 
 /// Worker 1 of two goes on while worker 0 is held, and six are called at once, for a desk each.

@@ -1,4 +1,4 @@
-use Rattle.std.proofs.Common.{◌≡◌, subst}
+use Rattle.std.proofs.Common.{subst}
 use Rattle.circuit_file.specs.Steps.{AddsNext}
 use Rattle.circuit_file.proofs.GateScans.{added_next}
 use Rattle.circuit_file.proofs.file.next_gate.Goals as goal

@@ -1,4 +1,4 @@
-use Rattle.std.proofs.Common.{◌≡◌, true, [], sym, ap, ap₂, ◌∙◌, nat_eq, ◌++◌, ◌*◌, ◌^◌, ◌%◌, arith}
+use Rattle.std.proofs.Common.{◌≡◌, true, [], sym, ap, ap₂, ◌∙◌, nat_eq, ◌++◌, ◌%◌}
 use Rattle.std.specs.Prelude.{not, codes}
 use Rattle.list_laws.specs.Lists.{only_if}
 use Rattle.party_set.specs.Parties.{has_party}

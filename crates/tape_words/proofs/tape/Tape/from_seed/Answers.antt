@@ -1,7 +1,6 @@
 use Rattle.std.proofs.Common.{rules, ℕ, ◌^◌, ◌<◌, All, List, subst, sym}
 use Rattle.rand_chacha.specs.ChaCha.{key_of}
 use Rattle.tape_words.proofs.SeedLists.{stream_words-inside}
-use Rattle.tape_words.proofs.tape.Tape.from_seed.Goals.{then-bits-le32+in_ok-words, else-bits-le32+in_ok-words-2}
 use Rattle.tape_words.proofs.tape.Tape.from_seed.Goals as goal
 
 pub returns-clause-words : goal.returns-clause-words
