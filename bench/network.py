@@ -1,12 +1,13 @@
 #!/usr/bin/env python3
-"""Times nodes that run a job over the loopback network: network.py PROGRAM
+"""Times nodes that run a job over the loopback network: network.py PROGRAM [jobs|orders]
 
 The jobs are the auction of examples/network, AES-128 of examples/aes, with its circuit as it is made and in layers, and SHA-256 of a message of one block of
 examples/sha256, in sessions that carry, with words that are added bit by bit and by trees of carries. Each is run ROUNDS times
 (20, where the environment doesn't say) by a node for each party, all started at once, with named frames and with short ones, and once by 'mpc
 run'. Prints for each job its messages, its bytes in both forms, its rounds, the least times of the nodes and that of the run in one process, and the
-time of one run of the nodes with short frames over links on which each byte takes 20 milliseconds (relay.py). Ends with status 1 where a node fails
-or writes anything else than 'mpc run' does.
+time of one run of the nodes with short frames over links on which each byte takes 20 milliseconds (relay.py). A second table has AES-128 in layers with
+products that are direct, prepared, and prepared ahead, with short frames: its rounds and bytes before the round of the inputs, and from that on. With a
+word it is one of both tables. Ends with status 1 where a node fails or writes anything else than 'mpc run' does.
 
 Bytes are those that all nodes send, as they are counted on the way: a hello of 38 bytes to each peer, and for a message 18 bytes or those of its word. A
 round is a run of slots that says something and of which none waits for another; a word that is carried is said to nobody. The rounds seen are those of a run over links that hold all that is sent
@@ -28,8 +29,9 @@ EXAMPLES = os.path.join(os.path.dirname(HERE), 'examples')
 NETWORK = os.path.join(EXAMPLES, 'network')
 sys.path[1:1] = [EXAMPLES, NETWORK, os.path.join(os.path.dirname(HERE), 'tests')]
 import nodes  # noqa: E402
+from by_layers import ORDERS  # noqa: E402
 from job_counts import counts_of  # noqa: E402
-from job_folder import read_fields  # noqa: E402
+from job_folder import job_text, read_fields, write_new  # noqa: E402
 from relay import Relay, Steps  # noqa: E402
 from waits import told  # noqa: E402
 
@@ -69,8 +71,8 @@ def time_alone(program, job):
     return time.perf_counter() - started
 
 
-# What is measured of the nodes of a job: their least time, the rounds and the bytes that are seen, and their time over slow links.
-Measured = collections.namedtuple('Measured', 'best rounds sent delayed')
+# What is measured of the nodes of a job: their least time, the bytes that are seen in each round, and their time over slow links.
+Measured = collections.namedtuple('Measured', 'best sizes delayed')
 
 
 def measure(program, job, form, run, times):
@@ -85,7 +87,7 @@ def measure(program, job, form, run, times):
             delayed = time_nodes(program, folder, names, expected, relay)
         with Steps(ports, folder) as steps:
             time_nodes(program, folder, names, expected, steps)
-    return Measured(best, steps.count, steps.bytes, delayed)
+    return Measured(best, steps.sizes, delayed)
 
 
 def row(program, name, job, times):
@@ -96,8 +98,21 @@ def row(program, name, job, times):
     sessions = counts_of(job).sessions
     messages = int(re.search(r'^messages (\d+)$', check, re.M)[1]) - sum(session.kept for session in sessions)
     rounds, least = map(sum, zip(*rounds_of_sessions(sessions)))
-    print(f'| {name} | {messages:,} | {named.sent:,} | {short.sent:,} | {rounds:,} | {short.rounds:,} | {least:,} '
+    print(f'| {name} | {messages:,} | {sum(named.sizes):,} | {sum(short.sizes):,} | {rounds:,} | {len(short.sizes):,} | {least:,} '
           f'| {1000 * named.best:.1f} | {1000 * short.best:.1f} | {1000 * alone:.1f} | {short.delayed:.2f} |', flush=True)
+
+
+def row_of_order(program, job, folder, order, times):
+    """A row of the second table: a job of one session, its products in some order."""
+    shutil.copytree(job, folder)
+    fields = read_fields(job)
+    [session] = fields['session']
+    write_new(folder, 'job.toml', job_text({**fields, 'session': [{**session, 'products': order}]}).encode(), replace=True)
+    run = subprocess.run([program, 'run', folder], check=True, capture_output=True, text=True).stdout
+    found, [counts] = measure(program, folder, 'short', run, times), counts_of(folder).sessions
+    before, sizes = counts.before, found.sizes
+    print(f'| {order} | {sum(counts.messages.values()):,} | {before:,} | {counts.rounds - before:,} | {len(sizes):,} | {sum(sizes[:before]):,} | {sum(sizes[before:]):,} '
+          f'| {1000 * found.best:.1f} | {found.delayed:.2f} |', flush=True)
 
 
 def rounds_of_sessions(sessions):
@@ -121,24 +136,48 @@ def bring_into_layers(program, job, folder):
     return folder
 
 
-def main(words):
-    if len(words) != 2:
-        sys.exit('usage: network.py PROGRAM')
-    program = os.path.abspath(words[1])
-    times = int(os.environ.get('ROUNDS', '20'))
-    print('| Job | Messages | Bytes, named frames | Bytes, short frames | Rounds | Rounds seen | Least rounds '
-          '| Milliseconds, named | Milliseconds, short | Milliseconds, one process | Seconds, nodes 20 ms apart |')
-    print('|---|---|---|---|---|---|---|---|---|---|---|')
+def head(*names):
+    print(f'| {" | ".join(names)} |')
+    print(len(names) * '|---' + '|')
+
+
+def aes(program, folder):
+    """The job of AES-128, as its circuit is made and in layers."""
+    made = os.path.join(folder, 'aes')
+    subprocess.run([sys.executable, os.path.join(EXAMPLES, 'aes', 'job.py'), 'make', made, KEY, BLOCK], check=True)
+    return made, bring_into_layers(program, made, os.path.join(folder, 'layers'))
+
+
+def table_of_jobs(program, folder, times):
+    head('Job', 'Messages', 'Bytes, named frames', 'Bytes, short frames', 'Rounds', 'Rounds seen', 'Least rounds', 'Milliseconds, named', 'Milliseconds, short',
+         'Milliseconds, one process', 'Seconds, nodes 20 ms apart')
     row(program, 'auction of three', NETWORK, times)
-    with tempfile.TemporaryDirectory() as folder:
-        job = os.path.join(folder, 'aes')
-        subprocess.run([sys.executable, os.path.join(EXAMPLES, 'aes', 'job.py'), 'make', job, KEY, BLOCK], check=True)
-        row(program, 'AES-128', job, times)
-        row(program, 'AES-128 in layers', bring_into_layers(program, job, os.path.join(folder, 'layers')), times)
-        for name, words in [('SHA-256 bit by bit', ['--chain']), ('SHA-256 by trees', [])]:
-            job = os.path.join(folder, name.replace(' ', '_'))
-            subprocess.run([sys.executable, os.path.join(EXAMPLES, 'sha256', 'job.py'), 'make', job, *PARTS, *words], check=True, capture_output=True)
-            row(program, name, job, times)
+    made, layers = aes(program, folder)
+    row(program, 'AES-128', made, times)
+    row(program, 'AES-128 in layers', layers, times)
+    for name, words in [('SHA-256 bit by bit', ['--chain']), ('SHA-256 by trees', [])]:
+        job = os.path.join(folder, name.replace(' ', '_'))
+        subprocess.run([sys.executable, os.path.join(EXAMPLES, 'sha256', 'job.py'), 'make', job, *PARTS, *words], check=True, capture_output=True)
+        row(program, name, job, times)
+
+
+def table_of_orders(program, folder, times):
+    head('Products of AES-128 in layers', 'Messages', 'Rounds before the inputs', 'Rounds from these on', 'Rounds seen', 'Bytes before the inputs',
+         'Bytes from these on', 'Milliseconds', 'Seconds, nodes 20 ms apart')
+    _, layers = aes(program, folder)
+    for order in ORDERS:
+        row_of_order(program, layers, os.path.join(folder, order), order, times)
+
+
+TABLES = {'jobs': table_of_jobs, 'orders': table_of_orders}
+
+
+def main(words):
+    if len(words) not in (2, 3) or not set(words[2:]) <= TABLES.keys():
+        sys.exit('usage: network.py PROGRAM [jobs|orders]')
+    for name in words[2:] or TABLES:
+        with tempfile.TemporaryDirectory() as folder:
+            TABLES[name](os.path.abspath(words[1]), folder, int(os.environ.get('ROUNDS', '20')))
 
 
 if __name__ == '__main__':
