@@ -632,6 +632,8 @@ def main(words):
     if len(words) != 2:
         sys.exit('usage: faulty_peers.py PROGRAM')
     program, numbers, status = os.path.abspath(words[1]), itertools.count(64), 0
+    if not os.access(program, os.X_OK):
+        sys.exit(f'faulty_peers: there is no program {words[1]}')
     with tempfile.TemporaryDirectory() as top, concurrent.futures.ThreadPoolExecutor(AT_ONCE) as pool:
         for cases in ALONE:
             if not tell(cases, [check_case(program, top, case) for case in cases(numbers)]):

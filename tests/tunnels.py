@@ -89,6 +89,9 @@ UsePAM no
 PidFile none
 '''
 
+# What a party's key may do at another one's computer, as the example's README has it.
+MAY = 'restrict,port-forwarding,permitopen="{here}:{port}",permitlisten="{here}:1",command="/bin/false"'
+
 # The number of the first party's login. No file of this machine has it.
 FIRST_LOGIN = 61_001
 
@@ -244,7 +247,7 @@ class Logins:
             os.chown(own, *2 * [self.numbers[party.name]])
             key = pathlib.Path(f'{own}.pub').read_text()
             for number, other in party.others:
-                pathlib.Path(self.file(other, party.name, 'authorized_keys')).write_text(f'restrict,port-forwarding,permitopen="{HERE}:{party.node(party.me, number)}" {key}')
+                pathlib.Path(self.file(other, party.name, 'authorized_keys')).write_text(f'{MAY.format(here=HERE, port=party.node(party.me, number))} {key}')
             known = [f'{address} {pathlib.Path(self.folders[name], "host.pub").read_text()}' for name, address in zip(NAMES, ADDRESSES) if name != party.name]
             pathlib.Path(self.file(party.name, party.name, 'known_hosts')).write_text(''.join(known))
 
@@ -292,13 +295,18 @@ class Logins:
 
 
 def keys_open_one_port(computers, logins, tunnels):
-    """At anna's computer the login of boris takes no key but his, and that opens the port of boris at anna, and not that of chen."""
+    """At anna's computer the login of boris takes no key but his, and that opens the port of boris at anna, and not that of chen; it runs no command there, and
+    opens no port for others."""
     anna, boris = tunnels[:2]
     own, others = anna.node(1, 0), anna.node(2, 0)
     line = 'ssh -N -o ExitOnForwardFailure=yes -L {0}:{1}:{0}:{1} boris@{2}'
-    refused = logins.call_ssh('chen', line.format(HERE, own, ADDRESSES[0]))
-    said = refused.communicate(timeout=MOST_SECONDS)[1]
-    expect(refused.returncode == 255 and 'Permission denied' in said, f'chen as boris: {refused.returncode} {said!r}')
+    for name, its_line, status, wanted in [('chen', line.format(HERE, own, ADDRESSES[0]), 255, 'Permission denied'),
+                                           ('boris', f'ssh boris@{ADDRESSES[0]} true', 1, ''),
+                                           ('boris', f'ssh -N -o ExitOnForwardFailure=yes -R {HERE}:9999:{HERE}:22 boris@{ADDRESSES[0]}', 255, 'remote port forwarding failed')]:
+        refused = logins.call_ssh(name, its_line)
+        said = refused.communicate(timeout=MOST_SECONDS)[1]
+        expect(refused.returncode == status and wanted in said, f'{name}: {its_line}: {refused.returncode} {said!r}')
+    expect(MAY.format(here=HERE, port=boris.node(0, 1)) in (NETWORK / 'README.md').read_text(), 'the README has another line of authorized_keys')
     ears = {port: await_ready(computers.start(computers.names[0], sys.executable, '-c', HEAR, HERE, str(port))) for port in (own, others)}
     for port in ears:
         await_ports(logins.call_ssh(boris.name, line.format(HERE, port, ADDRESSES[0])), {port}, 'ssh of boris')
@@ -360,7 +368,7 @@ def by_ssh(program, top):
         logins.computers = computers
         logins.let_in()
         keys_open_one_port(computers, logins, tunnels)
-        print("tunnels: who has another key is not let in by ssh, and a key opens no other party's port: as expected", flush=True)
+        print("tunnels: who has another key is not let in by ssh, and a key opens no other party's port and runs nothing: as expected", flush=True)
 
 
 WAYS = {'stunnel': by_stunnel, 'ssh': by_ssh}
