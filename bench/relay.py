@@ -89,8 +89,10 @@ class Steps(Relay):
             self.links[taken] = made
             last = len(self.links) == len(self.ports)
         if last:
-            self.go_on()
-            self.ended.set()
+            try:
+                self.go_on()
+            finally:
+                self.ended.set()
         self.ended.wait()
 
     def go_on(self):
@@ -117,11 +119,12 @@ class Steps(Relay):
 
 
 def is_busy(process):
-    """Whether a thread of a process runs, or is about to."""
+    """Whether a thread of a process runs, or is about to. One that ends meanwhile, or whose process does, is at rest."""
     states = []
-    for path in pathlib.Path(f'/proc/{process}/task').glob('*/stat'):
-        with contextlib.suppress(OSError):
-            states.append(path.read_text().rpartition(')')[2].split()[0])
+    with contextlib.suppress(OSError):
+        for thread in os.listdir(f'/proc/{process}/task'):
+            with contextlib.suppress(OSError):
+                states.append(pathlib.Path(f'/proc/{process}/task/{thread}/stat').read_text().rpartition(')')[2].split()[0])
     return not {'R', 'D'}.isdisjoint(states)
 
 
