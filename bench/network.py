@@ -6,8 +6,9 @@ examples/sha256, in sessions that carry, with words that are added bit by bit an
 (20, where the environment doesn't say) by a node for each party, all started at once, with named frames and with short ones, and once by 'mpc
 run'. Prints for each job its messages, its bytes in both forms, its rounds, the least times of the nodes and that of the run in one process, and the
 time of one run of the nodes with short frames over links on which each byte takes 20 milliseconds (relay.py). The table 'sha256' has the figures of
-examples/sha256, of messages of one block and of two; its memory is what /usr/bin/time tells. Without a word of it there is the table 'jobs' alone. Ends with
-status 1 where a node fails or writes anything else than 'mpc run' does.
+examples/sha256, of messages of one block and of two; its memory is what /usr/bin/time tells. The table 'orders' has AES-128 in layers with products that are
+direct, prepared, and prepared ahead, with short frames: its rounds and bytes before the round of the inputs, and from that on. Without a word of it there is the
+table 'jobs' alone. Ends with status 1 where a node fails or writes anything else than 'mpc run' does.
 
 Bytes are those that all nodes send, as they are counted on the way: a hello of 38 bytes to each peer, and for a message 18 bytes or those of its word. A
 round is a run of slots that says something and of which none waits for another; a word that is carried is said to nobody. The rounds seen are those of a run over links that hold all that is sent
@@ -30,8 +31,9 @@ EXAMPLES = os.path.join(os.path.dirname(HERE), 'examples')
 NETWORK = os.path.join(EXAMPLES, 'network')
 sys.path[1:1] = [EXAMPLES, NETWORK, os.path.join(os.path.dirname(HERE), 'tests')]
 import nodes  # noqa: E402
+from by_layers import ORDERS  # noqa: E402
 from job_counts import counts_of  # noqa: E402
-from job_folder import read_fields  # noqa: E402
+from job_folder import job_text, read_fields, write_new  # noqa: E402
 from relay import Relay, Steps  # noqa: E402
 from waits import told  # noqa: E402
 
@@ -84,8 +86,8 @@ def peak_of(program, job):
         return int(told_there.read()) / 2**10
 
 
-# What is measured of the nodes of a job: their least time, the rounds and the bytes that are seen, and their time over slow links.
-Measured = collections.namedtuple('Measured', 'best rounds sent delayed')
+# What is measured of the nodes of a job: their least time, the bytes that are seen in each round, and their time over slow links.
+Measured = collections.namedtuple('Measured', 'best sizes delayed')
 
 
 def measure(program, job, form, run, times, slow=True):
@@ -101,7 +103,7 @@ def measure(program, job, form, run, times, slow=True):
                 delayed = time_nodes(program, folder, names, expected, relay)
         with Steps(ports, folder) as steps:
             time_nodes(program, folder, names, expected, steps)
-    return Measured(best, steps.count, steps.bytes, delayed)
+    return Measured(best, steps.sizes, delayed)
 
 
 def run_of(program, job):
@@ -116,8 +118,20 @@ def row(program, name, job, times):
     sessions = counts_of(job).sessions
     messages = int(re.search(r'^messages (\d+)$', check, re.M)[1]) - sum(session.kept for session in sessions)
     rounds, least = map(sum, zip(*rounds_of_sessions(sessions)))
-    print(f'| {name} | {messages:,} | {named.sent:,} | {short.sent:,} | {rounds:,} | {short.rounds:,} | {least:,} '
+    print(f'| {name} | {messages:,} | {sum(named.sizes):,} | {sum(short.sizes):,} | {rounds:,} | {len(short.sizes):,} | {least:,} '
           f'| {1000 * named.best:.1f} | {1000 * short.best:.1f} | {1000 * alone:.1f} | {short.delayed:.2f} |', flush=True)
+
+
+def row_of_order(program, job, folder, order, times):
+    """A row of the table of orders: a job of one session, its products in some order."""
+    shutil.copytree(job, folder)
+    fields = read_fields(job)
+    [session] = fields['session']
+    write_new(folder, 'job.toml', job_text({**fields, 'session': [{**session, 'products': order}]}).encode(), replace=True)
+    found, [counts] = measure(program, folder, 'short', run_of(program, folder), times), counts_of(folder).sessions
+    before, sizes = counts.before, found.sizes
+    print(f'| {order} | {sum(counts.messages.values()):,} | {before:,} | {counts.rounds - before:,} | {len(sizes):,} | {sum(sizes[:before]):,} | {sum(sizes[before:]):,} '
+          f'| {1000 * found.best:.1f} | {found.delayed:.2f} |', flush=True)
 
 
 def rounds_of_sessions(sessions):
@@ -154,14 +168,20 @@ def make_sha256(folder, blocks, chain):
     return job, told_of
 
 
+def make_aes(program, folder):
+    """The job of AES-128, as its circuit is made and in layers."""
+    made = os.path.join(folder, 'aes')
+    subprocess.run([sys.executable, os.path.join(EXAMPLES, 'aes', 'job.py'), 'make', made, KEY, BLOCK], check=True)
+    return made, bring_into_layers(program, made, os.path.join(folder, 'layers'))
+
+
 def table_of_jobs(program, folder, times):
     head('Job', 'Messages', 'Bytes, named frames', 'Bytes, short frames', 'Rounds', 'Rounds seen', 'Least rounds', 'Milliseconds, named', 'Milliseconds, short',
          'Milliseconds, one process', 'Seconds, nodes 20 ms apart')
     row(program, 'auction of three', NETWORK, times)
-    job = os.path.join(folder, 'aes')
-    subprocess.run([sys.executable, os.path.join(EXAMPLES, 'aes', 'job.py'), 'make', job, KEY, BLOCK], check=True)
-    row(program, 'AES-128', job, times)
-    row(program, 'AES-128 in layers', bring_into_layers(program, job, os.path.join(folder, 'layers')), times)
+    made, layers = make_aes(program, folder)
+    row(program, 'AES-128', made, times)
+    row(program, 'AES-128 in layers', layers, times)
     for name, chain in [('SHA-256 bit by bit', True), ('SHA-256 by trees', False)]:
         row(program, name, make_sha256(folder, 1, chain)[0], times)
 
@@ -175,9 +195,9 @@ def table_of_sha256(program, folder, times):
         count = dict(re.findall(r'(\w+) (\d+)', re.search('(?m)^job .*', told_of)[0]))
         run, between = run_of(program, job), sum(sum(session.messages.values()) for session in counts_of(job).sessions)
         named, short = measure(program, job, 'named', run, 0, False), measure(program, job, 'short', run, times)
-        if short.rounds != int(count['rounds']):
-            print(f'network.py: {name}: {short.rounds} rounds are seen', file=sys.stderr)
-        figures = [*(int(count[key]) for key in ('sessions', 'gates', 'products', 'depth', 'rounds', 'carried', 'messages')), between, named.sent, short.sent]
+        if len(short.sizes) != int(count['rounds']):
+            print(f'network.py: {name}: {len(short.sizes)} rounds are seen', file=sys.stderr)
+        figures = [*(int(count[key]) for key in ('sessions', 'gates', 'products', 'depth', 'rounds', 'carried', 'messages')), between, sum(named.sizes), sum(short.sizes)]
         print(f'| {name} | {" | ".join(f"{figure:,}" for figure in figures)} |', flush=True)
         alone, peak = min(time_alone(program, job) for _ in range(2 * times)), peak_of(program, job)
         rows.append(f'| {name} | {1000 * alone:.0f} | {"" if peak is None else f"{peak:.1f}"} | {short.best:.2f} | {short.delayed:.1f} |')
@@ -186,7 +206,15 @@ def table_of_sha256(program, folder, times):
     print('\n'.join(rows))
 
 
-TABLES = {'jobs': table_of_jobs, 'sha256': table_of_sha256}
+def table_of_orders(program, folder, times):
+    head('Products of AES-128 in layers', 'Messages', 'Rounds before the inputs', 'Rounds from these on', 'Rounds seen', 'Bytes before the inputs',
+         'Bytes from these on', 'Milliseconds', 'Seconds, nodes 20 ms apart')
+    _, layers = make_aes(program, folder)
+    for order in ORDERS:
+        row_of_order(program, layers, os.path.join(folder, order), order, times)
+
+
+TABLES = {'jobs': table_of_jobs, 'sha256': table_of_sha256, 'orders': table_of_orders}
 
 
 def main(words):

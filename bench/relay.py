@@ -3,7 +3,7 @@
 Relay(ports, delay, folder) is used as a context. Nodes that listen at these ports are reached through it by nodes that are started with its
 'environment', which leads their connections to ports further on, by redirect.c. Steps(ports, folder) is used likewise, and is told the
 processes of the nodes. It holds all that is sent until every node waits, then passes it on at once, and counts how often: those are the rounds of the
-nodes, but for one more at times where the machine is busy. It counts the bytes, too. It needs Linux with the GNU C library, and a C compiler.
+nodes, but for one more at times where the machine is busy. It counts the bytes of each, too. It needs Linux with the GNU C library, and a C compiler.
 """
 
 import contextlib
@@ -76,7 +76,12 @@ class Relay:
 class Steps(Relay):
     def __init__(self, ports, folder):
         super().__init__(ports, 0, folder)
-        self.count, self.bytes, self.links, self.lock, self.ended = 0, 0, {}, threading.Lock(), threading.Event()
+        self.sizes, self.links, self.lock, self.ended = [], {}, threading.Lock(), threading.Event()
+
+    @property
+    def count(self):
+        """The rounds."""
+        return len(self.sizes)
 
     def hear(self, taken, made):
         """Waits for the other links. The thread of the last one goes on with all of them."""
@@ -84,8 +89,10 @@ class Steps(Relay):
             self.links[taken] = made
             last = len(self.links) == len(self.ports)
         if last:
-            self.go_on()
-            self.ended.set()
+            try:
+                self.go_on()
+            finally:
+                self.ended.set()
         self.ended.wait()
 
     def go_on(self):
@@ -105,19 +112,19 @@ class Steps(Relay):
 
     def pass_all(self, pieces):
         """Passes on pieces, of which an empty one ends its link. Ends by themselves don't count."""
-        self.count += any(piece for _, piece in pieces)
-        self.bytes += sum(len(piece) for _, piece in pieces)
+        self.sizes += [sum(len(piece) for _, piece in pieces)] * any(piece for _, piece in pieces)
         for made, piece in pieces:
             with contextlib.suppress(OSError):
                 made.sendall(piece) if piece else made.close()
 
 
 def is_busy(process):
-    """Whether a thread of a process runs, or is about to."""
+    """Whether a thread of a process runs, or is about to. One that ends meanwhile, or whose process does, is at rest."""
     states = []
-    for path in pathlib.Path(f'/proc/{process}/task').glob('*/stat'):
-        with contextlib.suppress(OSError):
-            states.append(path.read_text().rpartition(')')[2].split()[0])
+    with contextlib.suppress(OSError):
+        for thread in os.listdir(f'/proc/{process}/task'):
+            with contextlib.suppress(OSError):
+                states.append(pathlib.Path(f'/proc/{process}/task/{thread}/stat').read_text().rpartition(')')[2].split()[0])
     return not {'R', 'D'}.isdisjoint(states)
 
 

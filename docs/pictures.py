@@ -192,7 +192,7 @@ class ProductPicture:
 STRUCTURES = [(3, 1), (4, 1), (5, 1), (5, 2), (7, 2), (7, 3)]
 PARTIES_OF = {3: 'three', 4: 'four', 5: 'five', 7: 'seven'}
 TOGETHER = {1: 'each alone', 2: 'any two together', 3: 'any three together'}
-MOST_PRODUCTS, MOST_DEPTH, SOME_PRODUCTS = 1_000, 50, 40
+MOST_PRODUCTS, MOST_DEPTH, SOME_PRODUCTS = 1_000, 50, 45
 
 
 def of_products(parties, together):
@@ -226,9 +226,10 @@ class Chart:
         (from_x, from_y), (to_x, to_y) = self.at(0, start), self.at(self.most_x, end)
         self.drawing.line(from_x, from_y, to_x, to_y, colour, 2.5, **({'stroke_dasharray': '6 4'} if dashed else {}))
 
-    def name(self, y, colour, *lines):
-        """What a line is, behind its end."""
+    def name(self, y, colour, *lines, above=0):
+        """What a line is, behind its end or above that, where another line ends beside it."""
         at_x, at_y = self.at(self.most_x, y)
+        at_y -= above
         for place, line in enumerate(lines):
             self.drawing.text(at_x + 8, at_y + 4 + 15 * place, line, 12, colour, weight='bold' if place == 0 else 'normal')
 
@@ -242,7 +243,7 @@ def messages_chart(drawing):
     direct, before, then = of_products(3, 1)
     chart = Chart(drawing, 62, 106, 218, 210, MOST_PRODUCTS, 25_000)
     chart.axes([0, 500, 1_000], range(0, 25_001, 5_000), 'products', 'messages, three parties')
-    for each, colour, dashed, lines in [(before + then, PREPARED, True, ['prepared, in all', f'{before + then} a product']),
+    for each, colour, dashed, lines in [(before + then, PREPARED, True, ['prepared or ahead,', f'in all: {before + then} a product']),
                                         (direct, DIRECT, False, ['direct', f'{direct} a product']),
                                         (then, PREPARED, False, ['prepared, of them', f'with the inputs: {then}'])]:
         chart.draw(0, each * MOST_PRODUCTS, colour, dashed)
@@ -253,8 +254,10 @@ def rounds_chart(drawing, points):
     chart = Chart(drawing, 470, 106, 218, 210, MOST_DEPTH, 100)
     chart.axes(range(0, 51, 10), range(0, 101, 20), 'depth: products after one another', 'rounds of nodes, in layers')
     chart.draw(2, MOST_DEPTH + 2, DIRECT)
+    chart.draw(3, MOST_DEPTH + 3, BEFORE, True)
     chart.draw(SOME_PRODUCTS + 2, SOME_PRODUCTS + MOST_DEPTH + 2, PREPARED, True)
-    chart.name(MOST_DEPTH + 2, DIRECT, 'direct', 'depth + 2, and so', 'many with the inputs', 'of prepared products')
+    chart.name(MOST_DEPTH + 2, DIRECT, 'direct', 'depth + 2, and so', 'many with the inputs', 'where prepared')
+    chart.name(MOST_DEPTH + 3, PREPARED, 'ahead, in all', 'one more than direct', above=31)
     chart.name(SOME_PRODUCTS + MOST_DEPTH + 2, PREPARED, 'prepared, in all', 'one more a product', f'(here {SOME_PRODUCTS} products)')
     for depth, found, text in points:
         chart.point(depth, found, f'{text}: {found}')

@@ -9,7 +9,8 @@ in their order: so it computes the same, and all products of a layer take one ro
 agree on it before they agree on the job. Without NEW nothing is written.
 
 Prints how many products the circuit has, its depth, which is how many of them stand on the longest path, and the rounds of both
-orders: those of the inputs, the products and the outputs. A circuit that the program refuses is refused with its line; one that is too
+orders: those of the inputs, the products and the outputs. Two lines more tell the same for a session whose products are prepared, one after another or
+all ahead: the rounds before the inputs, and those that follow. A circuit that the program refuses is refused with its line; one that is too
 large for a session is cut by examples/cut.py, into sessions in layers. The program is ./mpc of this repository, or the one that is named.
 """
 
@@ -24,6 +25,11 @@ from job_folder import Refusal, job_text, need, read_bytes, read_widths, run_scr
 
 TOP = pathlib.Path(__file__).resolve().parent.parent
 PRODUCTS = {'AND', 'MUL'}
+
+# How the products of a session are computed: each is dealt itself, or is prepared before the inputs, one after another, or the masks of all ahead
+# of their products.
+DIRECT, PREPARED, AHEAD = ORDERS = ('direct', 'prepared', 'ahead')
+
 OF_WORDS = {'ADD', 'SUB', 'NEG', 'MUL'}
 
 # What a slot of an output sets.
@@ -86,46 +92,61 @@ JOINS = 2
 
 
 def talking_batches(slots):
-    """How many batches of slots say something. Of a slot there are the wires that it reads, the one that it sets, whether others wait for
-    that one, and whether it says something itself. It begins a batch where it reads a wire for which one waits in the batch before it, or sets one beside
+    """The batches of slots that say something, each by the slot behind it. Of a slot there are the wires that it reads, the one that it sets, whether others wait
+    for that one, and whether it says something itself. It begins a batch where it reads a wire for which one waits in the batch before it, or sets one beside
     a slot that joins."""
-    count, says, pending, joins = 0, False, set(), False
-    for reads, sets, waits, speaks in slots:
+    found, says, pending, joins = [], False, set(), False
+    for slot, (reads, sets, waits, speaks) in enumerate(slots):
         if not pending.isdisjoint(reads) or joins and waits != JOINS and sets != NOTHING:
-            count += says
+            found += [slot] * says
             says, pending, joins = False, set(), False
         if waits:
             pending.add(sets)
             joins |= waits == JOINS
         says |= speaks
-    return count + says
+    return found + [len(slots)] * says
 
 
 def prepared_slots(number, gate):
-    """The slots of a product that is prepared: its masks and their product, before all others, and then its openings and itself."""
+    """The slots of a product that is prepared: its masks, their product, and then, once the inputs are there, its openings and itself."""
     first, second, product = ((number, which) for which in range(3))
-    masks = [([], first, True, True), ([], second, True, True), ([first, second], product, True, True)]
-    return masks, [*(([wire, mask], NOTHING, False, True) for wire, mask in zip(gate.reads, (first, second))), ([], gate.sets, JOINS, False)]
+    masks = [([], first, True, True), ([], second, True, True)]
+    openings = [([wire, mask], NOTHING, False, True) for wire, mask in zip(gate.reads, (first, second))]
+    return masks, ([first, second], product, True, True), [*openings, ([], gate.sets, JOINS, False)]
 
 
-def rounds(head, gates, given=None, read=None, prepared=False):
-    """How many batches of slots say something: those with an input, a product or an output; but, where it is told which input values are
-    given and which output values are read, with none that is carried on instead. Products may be prepared."""
-    before, slots, wires = [], [], iter(range(int(head[0][1])))
+def preparation(products, order):
+    """The slots of masks and of their products, in this order."""
+    if order == AHEAD:
+        return [mask for masks, _, _ in products for mask in masks] + [product for _, product, _ in products]
+    return [slot for masks, product, _ in products for slot in (*masks, product)]
+
+
+def rounds_apart(head, gates, given=None, read=None, order=DIRECT):
+    """How many batches of slots say something, before the inputs and from these on: those with a mask, and those with an input, a product or an output; but, where
+    it is told which input values are given and which output values are read, with none that is carried on instead."""
+    products, slots, wires = [], [], iter(range(int(head[0][1])))
     for value, width in enumerate(map(int, head[1][1:])):
         slots += [([], wire, True, given is None or given[value]) for wire in itertools.islice(wires, width)]
     for number, gate in enumerate(gates):
-        if prepared and gate.multiplies:
-            masks, its_slots = prepared_slots(number, gate)
-            before += masks
-            slots += its_slots
+        if order != DIRECT and gate.multiplies:
+            products.append(prepared_slots(number, gate))
+            slots += products[-1][2]
         else:
             slots.append((gate.reads, gate.sets, gate.multiplies, gate.multiplies))
     widths = list(map(int, head[2][1:]))
     wires = iter(range(int(head[0][1]) - sum(widths), int(head[0][1])))
     for value, width in enumerate(widths):
         slots += [([wire], NOTHING, False, read is None or bool(read[value])) for wire in itertools.islice(wires, width)]
-    return talking_batches(before + slots)
+    before = preparation(products, order)
+    ends = talking_batches(before + slots)
+    earlier = sum(end <= len(before) for end in ends)
+    return earlier, len(ends) - earlier
+
+
+def rounds(head, gates, given=None, read=None, order=DIRECT):
+    """How many batches of slots say something, in all."""
+    return sum(rounds_apart(head, gates, given, read, order))
 
 
 def main(words):
@@ -146,6 +167,9 @@ def main(words):
         write_new(os.fspath(new.parent), new.name, text.encode())
     print(f'products {sum(gate.multiplies for gate in gates)} depth {layers(gates)[1]} '
           f'rounds {rounds(head, gates)} rounds_in_layers {rounds(head, by_layers)}')
+    for order in (PREPARED, AHEAD):
+        apart = [rounds_apart(head, its_gates, order=order) for its_gates in (gates, by_layers)]
+        print('{} before {} rounds {} before_in_layers {} rounds_in_layers {}'.format(order, *apart[0], *apart[1]))
     return 0
 
 

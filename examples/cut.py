@@ -284,7 +284,7 @@ class PartFile:
             slots.append(((firsts[wire], seconds[wire]), wire, product, product))
         for value in part.read:
             slots += [([wire], NOTHING, False, bool(readers[value])) for wire in circuit.output_wires([value])]
-        return talking_batches(slots)
+        return len(talking_batches(slots))
 
 
 # The job.

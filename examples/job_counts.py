@@ -3,17 +3,17 @@
 import collections
 import os
 
-from by_layers import layers, read_circuit, rounds
+from by_layers import DIRECT, ORDERS, layers, read_circuit, rounds_apart
 from circuit_reader import read_circuit as checked_circuit
 from expression_reader import compiled
 from job_folder import CARRIED, Refusal, need, read_bytes, read_fields
 from job_folder import read_job as read_whole_job
 from summands import Sharing, tolerated_of
 
-# Of a session: the name of its file, its layout, whether its products are prepared, how many values each party gives, who reads how many, from which sessions
-# how many wires are carried, its gates, its products, how many of these stand on the longest path, and its rounds; the messages by sender and receiver,
-# and those that stay with their party, of wires that later sessions carry.
-SessionCounts = collections.namedtuple('SessionCounts', 'file layout prepared gives reads carries gates products depth rounds messages kept')
+# Of a session: the name of its file, its layout, how its products are computed, how many values each party gives, who reads how many, from which sessions
+# how many wires are carried, its gates, its products, how many of these stand on the longest path, its rounds before the inputs, and all of them; the
+# messages by sender and receiver, and those that stay with their party, of wires that later sessions carry.
+SessionCounts = collections.namedtuple('SessionCounts', 'file layout order gives reads carries gates products depth before rounds messages kept')
 
 # A job: its sharing, and its sessions.
 JobCounts = collections.namedtuple('JobCounts', 'sharing sessions')
@@ -38,7 +38,7 @@ def carried_values(fields, number):
                 yield int(found[2])
 
 
-def messages_of(sharing, session, job, products, prepared):
+def messages_of(sharing, session, job, products, order):
     """The messages of a session between each two parties."""
     found = collections.Counter()
 
@@ -49,7 +49,7 @@ def messages_of(sharing, session, job, products, prepared):
     for owner, width in zip(session.owners, session.inputs):
         if owner in job.parties:
             add(sharing.deal(owner), width)
-    add(sum(sharing.prepared(), []) if prepared else sharing.product(), products)
+    add(sharing.product() if order == DIRECT else sum(sharing.prepared(), []), products)
     for readers, width in zip(session.readers, session.outputs):
         add(sharing.opening(readers), width)
     return found
@@ -59,7 +59,7 @@ def session_counts(folder, fields, job, sharing, number):
     """The counts of a session."""
     written, session = fields['session'][number], job.sessions[number]
     head, gates = gates_of(folder, fields, written)
-    prepared = written.get('products') == 'prepared'
+    order = written.get('products', DIRECT)
     gives, reads, carries = collections.Counter(), collections.Counter(), collections.Counter()
     for owner, width in zip(session.owners, session.inputs):
         found = CARRIED.fullmatch(owner)
@@ -71,17 +71,15 @@ def session_counts(folder, fields, job, sharing, number):
         reads.update(readers)
     products = sum(gate.multiplies for gate in gates)
     kept = sum(session.outputs[value] for value in carried_values(fields, number)) * sharing.of_carried()
-    speaks = len(job.parties) > 1
-    count = rounds(head, gates, [speaks and owner in job.parties for owner in session.owners], [any(sharing.opening(readers)) for readers in session.readers],
-                   prepared) if speaks else 0
-    return SessionCounts(written['circuit'], written['layout'], prepared, gives, reads, carries, len(gates), products, layers(gates)[1], count,
-                         messages_of(sharing, session, job, products, prepared), kept)
+    given, read = [owner in job.parties for owner in session.owners], [any(sharing.opening(readers)) for readers in session.readers]
+    before, then = rounds_apart(head, gates, given, read, order) if len(job.parties) > 1 else (0, 0)
+    return SessionCounts(written['circuit'], written['layout'], order, gives, reads, carries, len(gates), products, layers(gates)[1], before, before + then,
+                         messages_of(sharing, session, job, products, order), kept)
 
 
 def counts_of(folder):
     """The counts of a job's folder."""
     fields, job = read_fields(folder), read_whole_job(folder)
     sharing = Sharing(fields['parties'], tolerated_of(fields))
-    need(all(session.get('products', 'direct') in ('direct', 'prepared') for session in fields['session']),
-         f'{os.path.join(folder, "job.toml")}: products is neither direct nor prepared')
+    need(all(session.get('products', DIRECT) in ORDERS for session in fields['session']), f'{os.path.join(folder, "job.toml")}: products is none of {", ".join(ORDERS)}')
     return JobCounts(sharing, [session_counts(folder, fields, job, sharing, number) for number in range(len(job.sessions))])

@@ -21,6 +21,9 @@ from job_folder import run_script
 WIDTH, MARGIN = 840, 24
 LAYOUTS = {'bristol': 'circuit of bits', 'ring': 'circuit of words', 'expr': 'expressions'}
 
+# What is said of products that are prepared, in both orders.
+OF_PREPARED = {'prepared': ', products prepared before the inputs', 'ahead': ', products prepared before the inputs, all masks first'}
+
 # So many groups and carrying arrows are drawn, and the others are counted.
 MOST_PILLS, MOST_ARROWS = 24, 24
 
@@ -158,8 +161,8 @@ class JobPicture:
     def session(self, number, session, width):
         top, height = self.y, 92
         self.drawing.box(MARGIN, top, width, height)
-        self.drawing.box(MARGIN, top, 6, height, PREPARED if session.prepared else DIRECT, 'none', 3)
-        what = f'{session.file}, {LAYOUTS[session.layout]}' + (', products prepared before the inputs' if session.prepared else '')
+        self.drawing.box(MARGIN, top, 6, height, PREPARED if session.order in OF_PREPARED else DIRECT, 'none', 3)
+        what = f'{session.file}, {LAYOUTS[session.layout]}{OF_PREPARED.get(session.order, "")}'
         self.drawing.text(MARGIN + 18, top + 22, f'Session {number}', 13, weight='bold')
         self.drawing.text(MARGIN + 100, top + 22, short(what, 13, width - 120), 13, FAINT)
         carried = [f'session {earlier} ({many(wires, "wire")})' for earlier, wires in session.carries.items()]
@@ -168,7 +171,8 @@ class JobPicture:
                  f'reads: {self.of_names(session.reads, "value")}',
                  f'{many(session.gates, "gate")}, {many(session.products, "product")}'
                  + (f' of depth {session.depth}' if session.products > 1 else '') + f' · {many(sum(session.messages.values()), "message")}'
-                 + (f' and {count(session.kept)} that stay' if session.kept else '') + f' · {many(session.rounds, "round")}']
+                 + (f' and {count(session.kept)} that stay' if session.kept else '') + f' · {many(session.rounds, "round")}'
+                 + (f', {count(session.before)} of them before the inputs' if session.before else '')]
         for place, line in enumerate(lines):
             self.drawing.text(MARGIN + 18, top + 43 + 18 * place, short(line, 12.5, width - 30), 12.5, INK if place < 2 else FAINT)
         self.y += height + 12

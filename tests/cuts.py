@@ -1,7 +1,8 @@
 #!/usr/bin/env python3
 """Runs examples/cut.py and the scripts of examples/sha256: cuts.py PROGRAM
 
-Random circuits of bits and of words, whole and cut at several sizes, must come to what plain evaluation gives, at the cost that is told. What
+Random circuits of bits and of words, whole and cut at several sizes, must come to what plain evaluation gives, at the cost that is told, also where products are
+prepared, in both orders. What
 'mpc check' refuses of a circuit is refused with the same words, and what is past a limit of a job in one line. Digests are compared with
 Python's own. Ends with status 1, and tells why, where something ends otherwise. The largest circuits are among the jobs of bench/make_jobs.py.
 """
@@ -27,7 +28,7 @@ sys.path[1:1] = [str(EXAMPLES), str(EXAMPLES / 'sha256'), str(TOP / 'fuzz')]
 import cut  # noqa: E402
 import job_folder  # noqa: E402
 import sha256_circuit  # noqa: E402
-from by_layers import in_layers, read_circuit as read_gates, rounds  # noqa: E402
+from by_layers import ORDERS, in_layers, read_circuit as read_gates, rounds  # noqa: E402
 from circuit_faults import CIRCUIT_FAULTS  # noqa: E402
 from circuit_files import CIRCUIT_FILES  # noqa: E402
 from circuit_reader import read_circuit  # noqa: E402
@@ -35,6 +36,7 @@ from circuits import MOST_GATES, Circuit, circuit_of as circuit_file  # noqa: E4
 from cut import Order, parts_with_values  # noqa: E402
 from cut_places import best_cuts, depth_first, needed  # noqa: E402
 from in_the_clear import OPERATE, fields, out_in_the_clear  # noqa: E402
+from job_counts import counts_of  # noqa: E402
 from mutate import CHANGES  # noqa: E402
 from random_expressions import random_groups  # noqa: E402
 from waits import told  # noqa: E402
@@ -161,6 +163,17 @@ def cut_here(file, folder, parties, options):
     return '\n'.join([cut.told_of(circuit), *job.told()])
 
 
+def expect_other_orders(program, chance, folder, job, sample, readers):
+    """That the job writes the same where the products of each session are direct or prepared, in one of both orders, and costs what is counted."""
+    fields = job_folder.read_fields(folder)
+    sessions = [{**session, 'products': chance.choice(ORDERS)} for session in fields['session']]
+    job_folder.write_new(folder, 'job.toml', job_folder.job_text({**fields, 'session': sessions}).encode(), replace=True)
+    expect_outputs(folder, job, call_program(program, 'run', folder), sample, readers)
+    counted = [sum(session.messages.values()) + session.kept for session in counts_of(folder).sessions]
+    found = re.findall(r'^session \d+ gates \d+ products \d+ messages (\d+)$', call_program(program, 'check', folder), re.M)
+    expect(list(map(int, found)) == counted, f'{folder}: {counted} messages are counted, and not {found}')
+
+
 def try_cut(program, top, chance, sample, most, parties=('a', 'b', 'c'), tolerated=(('a',), ('b',), ('c',)), fewest='wires'):
     """Cuts a circuit into sessions of so many gates, and runs the job; a small one is computed in the clear, too."""
     folder, file = os.path.join(top, f'job_{len(os.listdir(top))}'), os.path.join(top, 'circuit')
@@ -178,6 +191,7 @@ def try_cut(program, top, chance, sample, most, parties=('a', 'b', 'c'), tolerat
         expect_rounds(folder, job, told)
         files = {path.name: path.read_bytes() for path in pathlib.Path(folder).iterdir()}
         expect_outputs(folder, job, out_in_the_clear(files), sample, readers)
+        expect_other_orders(program, chance, folder, job, sample, readers)
     return told
 
 

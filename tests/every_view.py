@@ -1,14 +1,15 @@
 #!/usr/bin/env python3
 """Audits what runs write of views: every_view.py PROGRAM
 
-For each job of the rows that is accepted, and each example, runs it with the view of each group, and audits what stands behind the outputs:
-the answer must be yes, with as many messages as there are lines. What the node of each party tells of its own view must be the same text. Then changes a small view in one byte at each place, and audits each changed text:
+For each job of the rows that is accepted, each example, and random jobs whose products are direct and prepared in both orders, runs it with the view of each group,
+and audits what stands behind the outputs: the answer must be yes, with as many messages as there are lines. What the node of each party tells of its own view must be the same text. Then changes a small view in one byte at each place, and audits each changed text:
 the answer must be the one that the table of faults gives, as a reader of views in this file finds it. Ends with status 1, and tells why, where
 an answer is another.
 """
 
 import os
 import pathlib
+import random
 import re
 import shutil
 import subprocess
@@ -17,11 +18,15 @@ import tempfile
 
 from audits import OF_C
 from product import PRODUCT
+from random_expressions import random_job
 from rows import EXAMPLES, GROUPS
 from waits import MOST_SECONDS, told
 
 # Groups of rows that have jobs which are accepted.
 ACCEPTED = ['accepted', 'wide rings', 'tolerated', 'prepared', 'carried', 'expressions', 'parties', 'jobs']
+
+# So many jobs are random ones.
+RANDOM_JOBS = 24
 
 # Of a job with more groups than these, the smallest, the largest, and those of one party and of all but one are taken.
 MOST_GROUPS = 64
@@ -160,6 +165,11 @@ def main(words):
             if row.words[0] == 'run' and row.status == 0:
                 count = audit_views(program, row.name, row.files())
                 jobs, views = jobs + (count > 0), views + count
+    for number in range(RANDOM_JOBS):
+        count = audit_views(program, f'random job {number}', random_job(random.Random(f'views {number}'))[0])
+        if not count:
+            sys.exit(f'audits: random job {number} is refused')
+        jobs, views = jobs + 1, views + count
     for job in sorted(EXAMPLES.glob('**/job.toml')):
         if (job.parent / 'expected').exists():
             files = {file.name: file.read_bytes() for file in job.parent.iterdir() if file.is_file()}

@@ -2,7 +2,7 @@
 """Runs a program over jobs of random expressions: random_expressions.py PROGRAM COUNT [SEED]
 
 Each of COUNT tries is a job of one to six parties, random groups that must learn nothing, a ring of 1 to 64 bits, and one to three sessions of
-the layout 'expr'. What 'run' writes must be what Python's own integers come to. The same job with the circuits that examples/expressions.py
+the layout 'expr', whose products are direct or prepared, in both orders, and which may carry on what earlier ones came to. What 'run' writes must be what Python's own integers come to. The same job with the circuits that examples/expressions.py
 makes of its files must write the same by 'run --view', 'check' and 'pair'. Then a file is changed in some places: the program must refuse it as
 examples/expressions.py does, or take it as the circuit that it makes. Try N of a SEED (0 where it isn't given) is the same each time.
 Ends with status 1, and keeps the files, where a try goes wrong.
@@ -24,6 +24,7 @@ import tempfile
 TOP = pathlib.Path(__file__).resolve().parent.parent
 sys.path[1:1] = [str(TOP / 'examples'), str(TOP / 'fuzz')]
 
+from by_layers import ORDERS  # noqa: E402
 from in_the_clear import fields, out_in_the_clear  # noqa: E402
 from job_folder import job_text  # noqa: E402
 from mutate import CHANGES  # noqa: E402
@@ -162,24 +163,29 @@ def some_words(chance, bits, count):
     return [chance.choice([0, 1, 2**bits - 1, chance.randrange(2**bits)]) for _ in range(count)]
 
 
+# How the products of a session are computed.
+PRODUCTS_FIELDS = [{}, {}, *({'products': order} for order in ORDERS for _ in range(1 + (order != 'direct')))]
+
+
 def random_job(chance):
     """The files of a job, and what 'run' is to write."""
     bits = chance.choice([1, 2, 8, 31, 32, 33, 63, 64, chance.randrange(1, 65)])
     parties = chance.sample(['a', 'b', 'c', 'dora', 'e_5', 'F'], chance.choice([1, 2, 3, 3, 3, 4, 5, 6]))
     programs = [random_program(chance, f'{number}.txt', bits) for number in range(chance.choice([1, 1, 2, 3]))]
     sessions, out = [], ''
-    words, other = {name: [] for name in parties}, {name: [] for name in parties}
+    words, other, earlier = {name: [] for name in parties}, {name: [] for name in parties}, {}
     for number in range(len(programs)):
         program = chance.choice([programs[number], programs[number], programs[0]])
-        owners = chance.choices(parties, k=program.inputs)
+        owners = chance.choices([*parties, *chance.sample(sorted(earlier), min(len(earlier), 3))], k=program.inputs)
         readers = [chance.sample(parties, chance.randrange(len(parties) + 1)) for _ in range(program.outputs)]
-        sessions.append({'circuit': program.name, 'layout': 'expr', 'owners': owners, 'readers': readers})
-        inputs = some_words(chance, bits, program.inputs)
+        sessions.append({'circuit': program.name, 'layout': 'expr', 'owners': owners, 'readers': readers, **chance.choice(PRODUCTS_FIELDS)})
+        inputs = [earlier.get(owner, word) for owner, word in zip(owners, some_words(chance, bits, program.inputs))]
         for kept, given in ((words, inputs), (other, [chance.choice([word, word, *some_words(chance, bits, 1)]) for word in inputs])):
             for name in parties:
                 kept[name].append(' '.join(str(word) for word, owner in zip(given, owners) if owner == name))
         for value, word in enumerate(python_values(program.lines, inputs, bits)):
             out += ''.join(f'out {number} {value} {name} {word}\n' for name in parties if name in readers[value])
+            earlier[f'@{number}.{value}'] = word
     job = {'version': 2, 'ring_bits': bits, 'parties': parties, 'tolerated': random_groups(chance, parties), 'session': sessions}
     files = {program.name: program.data for program in programs}
     files['job.toml'] = job_text(job).encode()

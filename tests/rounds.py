@@ -4,7 +4,8 @@
 Two nodes and a party that goes one slot after another end a job together, each with its outputs. A node whose peer stops after any byte of what it
 says has said a first part of what it is to say, and all that stands before the first word that it then waits for: the posts of a whole batch of
 slots, and those of the batches before. So three products that need not wait for one another are posted before a word of the first is there. Both
-hold of named and of short frames. Ends with status 1, and tells why, where a node does otherwise.
+hold of named and of short frames. And the nodes of jobs with direct sessions and prepared ones of both orders take as many rounds on the wire as examples/job_counts.py
+counts: this needs a C compiler (bench/relay.py), and is left out, and told so, where there is none. Ends with status 1, and tells why, where a node does otherwise.
 """
 
 import contextlib
@@ -12,6 +13,7 @@ import itertools
 import os
 import pathlib
 import re
+import shutil
 import socket
 import subprocess
 import sys
@@ -21,11 +23,18 @@ TOP = pathlib.Path(__file__).resolve().parent.parent
 sys.path[1:1] = [str(TOP / 'bench'), str(TOP / 'examples'), str(TOP / 'examples/network')]
 import nodes  # noqa: E402
 from by_layers import read_circuit  # noqa: E402
+from job_counts import counts_of  # noqa: E402
+from job_folder import read_fields  # noqa: E402
 from peers import Peers  # noqa: E402
+from relay import Steps  # noqa: E402
 from waits import MOST_SECONDS, told  # noqa: E402
 
 HELLO = 38
 FORMS = ['named', 'short']
+
+# Jobs of which rounds are counted on the wire, and how often, since a busy machine makes one more of one.
+COUNTED = ['network', 'prepared', 'prepared/direct', 'prepared/ahead', 'prepared/mixed', 'running_total']
+TRIES = 5
 
 # Three products that need none of one another, one that needs two of them, and a sum that needs it: the batches begin in slots 0, 3, 6 and 7.
 CIRCUIT = '5 8\n3 1 1 1\n1 1\n2 1 0 1 3 MUL\n2 1 1 2 4 MUL\n2 1 0 2 5 MUL\n2 1 3 4 6 MUL\n2 1 5 6 7 ADD\n'
@@ -144,6 +153,29 @@ def parties_of_both_orders(program, top, job, form):
             node.kill()
 
 
+def rounds_on_the_wire(program, top, job):
+    """How often the nodes of a job wait for one another."""
+    names = split(job, top, 'short')
+    port = read_fields(os.path.join(top, names[0]))['port']
+    with Steps([port + 12 * q + p for q, p in itertools.permutations(range(3), 2)], top) as steps:
+        running = [subprocess.Popen([program, 'node', os.path.join(top, name), name], stdin=subprocess.DEVNULL, stdout=subprocess.PIPE,
+                                    stderr=subprocess.PIPE, text=True, env=steps.environment) for name in names]
+        steps.processes = [node.pid for node in running]
+        for name, node in zip(names, running):
+            out, err = node.communicate(timeout=MOST_SECONDS)
+            expect(node.returncode == 0 and out == lines_of(program, job, name), f'{name} ended with status {node.returncode}: {err or out}')
+    return steps.count
+
+
+def nodes_take_their_rounds(program, job):
+    """The least of some runs is what is counted of the job, and none is less."""
+    wanted, found = sum(session.rounds for session in counts_of(job).sessions), []
+    while len(found) < TRIES and wanted not in found:
+        with tempfile.TemporaryDirectory() as top:
+            found.append(rounds_on_the_wire(program, top, job))
+    expect(min(found) == wanted, f'{job}: rounds {found} on the wire, and not {wanted}')
+
+
 def batch_of_slots(job):
     """The first slot of the batch of each slot: a slot begins one where it reads a wire that an input or a product of the batch before it sets."""
     head, gates = read_circuit(pathlib.Path(job, 'circuit.txt').read_bytes())
@@ -219,10 +251,13 @@ def main(words):
         for example, form in itertools.product(['network', 'prepared/mixed', 'running_total'], FORMS):
             with tempfile.TemporaryDirectory() as top:
                 parties_of_both_orders(program, top, str(TOP / 'examples' / example), form)
+        for example in COUNTED if shutil.which('cc') else []:
+            nodes_take_their_rounds(program, str(TOP / 'examples' / example))
     except (Wrong, OSError, subprocess.SubprocessError) as wrong:
         print(f'rounds: NOT AS EXPECTED: {wrong}')
         return 1
-    print(f'rounds: {runs} nodes whose peer stops, and parties of both orders: as expected')
+    counted = f'the rounds of {len(COUNTED)} jobs on the wire' if shutil.which('cc') else 'no rounds on the wire, for want of cc'
+    print(f'rounds: {runs} nodes whose peer stops, parties of both orders, and {counted}: as expected')
     return 0
 
 

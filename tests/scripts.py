@@ -197,7 +197,8 @@ def shuffled(chance, text):
 
 
 def circuits_come_into_layers(program, top):
-    """A circuit in layers has the same gates and comes to the same, and takes no more rounds than its depth and two more."""
+    """A circuit in layers has the same gates and comes to the same, and takes no more rounds than its depth and two more. Where its products are
+    prepared there are as many rounds more as there are products, or one where all are prepared ahead."""
     chance = random.Random(2)
     for number, (name, words, bits) in enumerate([('auction', ['3', '4'], 1), ('multiply', ['5'], 1), ('less', ['8'], 1), ('total', ['6'], 64)]):
         text = shuffled(chance, circuit_file(name, words))
@@ -208,6 +209,9 @@ def circuits_come_into_layers(program, top):
         expect(sorted(found.split('\n')) == sorted(text.split('\n')), f'{name}: other gates')
         products, depth, before, after = (int(told[place]) for place in (1, 3, 5, 7))
         expect(products == len(re.findall('AND|MUL', text)) and depth + 1 <= after <= min(before, depth + 2), f'{name}: {told}')
+        expect(told[8:17:8] == ['prepared', 'ahead'] or told[8] == 'prepared' and told[17] == 'ahead', f'{name}: {told}')
+        for first, earlier in ((8, products), (17, min(products, 1))):
+            expect([int(told[first + place]) for place in (2, 6, 8)] == [earlier, earlier, after] and int(told[first + 4]) >= before, f'{name}: {told}')
         for _ in range(20):
             inputs = [chance.randrange(2**bits) for _ in range(sum(circuit_of(text.encode())[0]))]
             expect(last_wires(circuit_of(text.encode()), inputs, bits) == last_wires(circuit_of(found.encode()), inputs, bits), f'{name}: another result')
@@ -268,7 +272,8 @@ def aes_is_the_standards(program, top):
         shutil.copytree(made, sorted_job)
         os.remove(os.path.join(sorted_job, 'aes.txt'))
         told = wrote(BY_LAYERS, os.path.join(made, 'aes.txt'), os.path.join(sorted_job, 'aes.txt'), program)
-        expect(told == 'products 7200 depth 40 rounds 2402 rounds_in_layers 42\n', told)
+        expect(told == 'products 7200 depth 40 rounds 2402 rounds_in_layers 42\n'
+               'prepared before 7200 rounds 4402 before_in_layers 7200 rounds_in_layers 42\nahead before 1 rounds 4402 before_in_layers 1 rounds_in_layers 42\n', told)
         for folder in (made, sorted_job):
             files = {file.name: file.read_bytes() for file in pathlib.Path(folder).iterdir()}
             done = subprocess.run([program, 'run', folder], capture_output=True, text=True, timeout=MOST_SECONDS)
