@@ -165,7 +165,7 @@ HEADINGS = {
     ('node_run', 'Remains'): 'What stays steady at a spawner',
     ('node_run', 'NodeRuns'): 'What a node\'s run says',
     ('node_run', 'Ready'): 'The share of a world that a party has',
-    ('fault_text', 'FaultLines'): 'The line of each fault of a node',
+    ('node_text', 'FaultLines'): 'The line of each fault of a node',
     ('desk_laws', 'Pieces'): 'Worlds from pieces of tape',
     ('view_text', 'ViewText'): 'The text of a view',
     ('view_check', 'Lines'): 'Lines and parts of a text',

@@ -1,7 +1,7 @@
 use Rattle.std.proofs.Common.{sym, subst}
 use Rattle.outer_io.specs.Blocks.{Adds}
-use Rattle.fault_text.specs.FaultLines.{fault_line}
-use Rattle.fault_text.proofs.line.gather_fault.Goals as goal
+use Rattle.node_text.specs.FaultLines.{fault_line}
+use Rattle.node_text.proofs.fault.gather_fault.Goals as goal
 
 pub returns-in-Link : goal.returns-in-Link
 unfolding fault_line

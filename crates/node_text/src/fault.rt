@@ -3,7 +3,7 @@ ghost use Rattle.outer_io.specs.Sink.{Writes};
 ghost use Rattle.outer_io.specs.Blocks.{Adds};
 ghost use Rattle.party_set.specs.Names.{name_at};
 ghost use Rattle.frame_code.specs.Frames.{shown};
-ghost use Rattle.fault_text.specs.FaultLines.{fault_line, short_line, closed_line, frame_line, job_line, fault_head};
+ghost use Rattle.node_text.specs.FaultLines.{fault_line, short_line, closed_line, frame_line, job_line, fault_head};
 
 use crate::hex::gather_hex;
 use frame_code::{FrameBytes, HELLO_BYTES};

@@ -1,8 +1,8 @@
 use Rattle.std.proofs.Common.{subst}
 use Rattle.outer_io.specs.Blocks.{Adds}
 use Rattle.outer_io.proofs.GatheredTexts.{adds_then}
-use Rattle.fault_text.specs.FaultLines.{hex_text}
-use Rattle.fault_text.proofs.line.gather_frame.Goals as goal
+use Rattle.node_text.specs.FaultLines.{hex_text}
+use Rattle.node_text.proofs.fault.gather_frame.Goals as goal
 
 pub returns : goal.returns
 returns g c =

@@ -3,8 +3,8 @@ use Rattle.std.proofs.lemmas.Grind.{flat_map-append}
 use Rattle.std.proofs.lemmas.List.{take_all, take_more}
 use Rattle.outer_io.proofs.GatheredTexts.{adds_nothing, adds_then}
 use Rattle.text_parts.proofs.GatheredTexts.{adds_same}
-use Rattle.fault_text.specs.FaultLines.{hex_byte, hex_text}
-use Rattle.fault_text.proofs.hex.gather_hex.Goals as goal
+use Rattle.node_text.specs.FaultLines.{hex_byte, hex_text}
+use Rattle.node_text.proofs.hex.gather_hex.Goals as goal
 
 pub loop-byte-init : goal.loop-byte-init
 loop-byte-init g c = adds_nothing _

@@ -1,7 +1,7 @@
 use Rattle.std.proofs.Common.{rules, refl}
 use Rattle.outer_io.proofs.GatheredTexts.{adds_all}
-use Rattle.fault_text.specs.FaultLines.{fault_line}
-use Rattle.fault_text.proofs.line.write_fault.Goals as goal
+use Rattle.node_text.specs.FaultLines.{fault_line}
+use Rattle.node_text.proofs.fault.write_fault.Goals as goal
 
 pub returns : goal.returns
 returns g c =

@@ -1,7 +1,7 @@
 //! Bytes in base 16.
 ghost use Rattle.std.specs.Prelude.{◌≡◌, ◌<◌};
 ghost use Rattle.outer_io.specs.Blocks.{Adds};
-ghost use Rattle.fault_text.specs.FaultLines.{hex_digit, hex_byte, hex_text};
+ghost use Rattle.node_text.specs.FaultLines.{hex_digit, hex_byte, hex_text};
 
 use outer_io::Gather;
 
