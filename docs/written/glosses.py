@@ -41,7 +41,7 @@ PAGES = [
     Page('STATEMENT_OUTSIDE', 'The outside, and `command`', 'What files, outputs, threads and the net show, and the answer of `command` to any words. Then the laws of calls, of one and of two in a '
          'row, and the headline: accepted files give a good job, and of each such job the pages before say that its outputs are right in every order, no tape word is drawn twice, and a '
          'group that its file tolerates learns nothing.',
-         [('mpc_top', 'command'), ('mpc_top', 'command_alone'), ('pair_run', '*'), ('tape_map', '*'), ('walk_laws', '*'),
+         [('mpc_top', 'command'), ('mpc_top', 'command_alone'), ('tape_map', '*'), ('walk_laws', '*'),
           ('walk_laws', 'accepted_files_give_a_job'), ('walk_laws', 'accepted_jobs_are_right_and_private')]),
 ]
 # Laws that no page has: worked jobs by computation, steps of proofs, and faults of code.

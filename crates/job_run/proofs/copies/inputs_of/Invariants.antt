@@ -1,7 +1,7 @@
 use Rattle.std.proofs.Common.{◌≡◌, map, take}
 use Rattle.job_plan.specs.InputWords.{input_words, session_words}
 use Rattle.party_file.specs.declared.data.PartyData.{PartyData}
-use Rattle.pair_run.proofs.given.inputs_of.Given as goal
+use Rattle.job_run.proofs.copies.inputs_of.Given as goal
 
 -- the inputs of the parties so far
 abbrev pub invariant-loop-party : goal.invariant-loop-party

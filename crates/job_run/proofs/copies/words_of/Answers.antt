@@ -1,6 +1,6 @@
 use Rattle.std.proofs.Common.{◌++◌, sym, ap₂, ◌∙◌}
-use Rattle.pair_run.proofs.PartyCopies.{concat_more}
-use Rattle.pair_run.proofs.given.words_of.Goals as goal
+use Rattle.job_run.proofs.PartyCopies.{concat_more}
+use Rattle.job_run.proofs.copies.words_of.Goals as goal
 
 pub loop-piece-preserved : goal.loop-piece-preserved
 loop-piece-preserved c =

@@ -8,9 +8,9 @@ use Rattle.job_plan.specs.InputWords.{session_words}
 use Rattle.wire_tables.proofs.ListedRows.{row_read}
 use Rattle.tape_map.proofs.ChangedPieces.{small_all}
 use Rattle.desk_laws.specs.Pieces.{ArePieces}
-use Rattle.pair_run.specs.Pairs.{tapes_in}
-use Rattle.pair_run.proofs.CutTapes.{cut_piece, cut_row, piece_more, are_pieces, tapes_same}
-use Rattle.pair_run.proofs.pieces.cut_pieces.Goals as goal
+use Rattle.job_run.specs.Pairs.{tapes_in}
+use Rattle.job_run.proofs.CutTapes.{cut_piece, cut_row, piece_more, are_pieces, tapes_same}
+use Rattle.job_run.proofs.cuts.cut_pieces.Goals as goal
 
 pub piece_of-requires-clause-words : goal.piece_of-requires-clause-words
 piece_of-requires-clause-words c =

@@ -6,8 +6,8 @@ use Rattle.share_world.specs.Laws.{IsWhole, AreTapes}
 use Rattle.wire_tables.specs.WireTables as tables
 use Rattle.tape_map.proofs.ChangedTapes.{are_tapes}
 use Rattle.job_run.specs.Parties.{AllFit, world_of}
-use Rattle.pair_run.proofs.PairWorlds.{parties_whole, world_is}
-use Rattle.pair_run.proofs.pair.pair_of.Goals as goal
+use Rattle.job_run.proofs.PairWorlds.{parties_whole, world_is}
+use Rattle.job_run.proofs.pair.pair_of.Goals as goal
 
 pub inputs_of-requires-clause-fit : goal.inputs_of-requires-clause-fit
 inputs_of-requires-clause-fit c = subst (AllFit c.args.plan.now) (sym c.as_slice.ensures.value) c.requires.fit

@@ -1,8 +1,8 @@
 use Rattle.std.proofs.Common.{sym, ◌∙◌, subst}
 use Rattle.job_plan.specs.InputWords.{AreInputs, input_words}
 use Rattle.job_run.proofs.Worlds.{are_inputs}
-use Rattle.pair_run.proofs.PartyCopies.{inputs_end}
-use Rattle.pair_run.proofs.given.inputs_of.Goals as goal
+use Rattle.job_run.proofs.PartyCopies.{inputs_end}
+use Rattle.job_run.proofs.copies.inputs_of.Goals as goal
 
 pub make-requires : goal.make-requires
 make-requires c =

@@ -5,7 +5,7 @@ ghost use Rattle.job_plan.specs.Plans.{place, words};
 ghost use Rattle.job_plan.specs.Tallies.{tape_length};
 ghost use Rattle.share_world.specs.Laws.{AreTapes};
 ghost use Rattle.desk_laws.specs.Pieces.{ArePieces};
-ghost use Rattle.pair_run.specs.Pairs.{tapes_in};
+ghost use Rattle.job_run.specs.Pairs.{tapes_in};
 
 use job_plan::Plan;
 use std::alloc::{AllocError, Global};

@@ -7,7 +7,7 @@ use Rattle.tape_map.specs.TapeMaps.{second_world}
 use Rattle.tape_map.specs.Laws.{CanHide}
 use Rattle.desk_laws.specs.Pieces.{world_of_pieces}
 use Rattle.desk_workers.specs.Runs.{IsReady}
-use Rattle.pair_run.specs.declared.pair.Pair.{Pair}
+use Rattle.job_run.specs.declared.pair.Pair.{Pair}
 
 -- the tapes of all parties, of which each is its pieces, session after session
 abbrev pub tapes_in : Plan → List (List ℕ) → List (List ℕ)

@@ -1,6 +1,6 @@
 use Rattle.std.proofs.Common.{◌≡◌, take}
 use Rattle.job_plan.specs.InputWords.{session_words}
-use Rattle.pair_run.proofs.given.copy_of.Given as goal
+use Rattle.job_run.proofs.copies.copy_of.Given as goal
 
 -- the sessions so far
 abbrev pub invariant-loop-words : goal.invariant-loop-words

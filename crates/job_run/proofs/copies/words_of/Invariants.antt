@@ -1,6 +1,6 @@
 use Rattle.std.proofs.Common.{◌≡◌, take}
 use Rattle.std.specs.List.{concat}
-use Rattle.pair_run.proofs.given.words_of.Given as goal
+use Rattle.job_run.proofs.copies.words_of.Given as goal
 
 -- the words of the pieces so far
 abbrev pub invariant-loop-piece : goal.invariant-loop-piece

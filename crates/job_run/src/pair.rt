@@ -6,13 +6,13 @@ ghost use Rattle.party_file.specs.Forms.{form_of};
 ghost use Rattle.tape_map.specs.MapFaults.{map_fault};
 ghost use Rattle.tape_map.specs.declared.fault.MapFault.TheVariants.{Memory};
 ghost use Rattle.job_run.specs.Parties.{AllFit, world_of};
-ghost use Rattle.pair_run.specs.Pairs.{IsPair};
+ghost use Rattle.job_run.specs.Pairs.{IsPair};
 
-use crate::given::{inputs_of, tapes_of};
-use crate::pieces::cut_pieces;
+use crate::copies::{inputs_of, tapes_of};
+use crate::cuts::cut_pieces;
+use crate::ready::prepared;
 use desk_workers::{Ready, prepare};
 use job_plan::{Inputs, Plan};
-use job_run::prepared;
 use party_file::PartyData;
 use party_set::{Group, Groups};
 use std::alloc::Global;

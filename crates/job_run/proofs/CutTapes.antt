@@ -11,7 +11,7 @@ use Rattle.share_world.specs.Laws.{AreTapes}
 use Rattle.wire_tables.proofs.ListedRows.{listed_of}
 use Rattle.tape_map.proofs.ChangedPieces.{small_all}
 use Rattle.desk_laws.specs.Pieces.{ArePieces, piece_at}
-use Rattle.pair_run.specs.Pairs.{tapes_in}
+use Rattle.job_run.specs.Pairs.{tapes_in}
 
 -- what is cut off party p's tape for session s
 abbrev pub cut_piece : Plan → List (List ℕ) → ℕ → ℕ → List ℕ

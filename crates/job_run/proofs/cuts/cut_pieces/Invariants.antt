@@ -1,8 +1,8 @@
 use Rattle.std.proofs.Common.{◌≡◌, ◌++◌}
 use Rattle.list_laws.specs.Lists.{joined, listed}
 use Rattle.job_plan.specs.InputWords.{session_words}
-use Rattle.pair_run.proofs.CutTapes.{cut_piece, cut_row}
-use Rattle.pair_run.proofs.pieces.cut_pieces.Given as goal
+use Rattle.job_run.proofs.CutTapes.{cut_piece, cut_row}
+use Rattle.job_run.proofs.cuts.cut_pieces.Given as goal
 
 -- the pieces of the sessions so far
 abbrev pub invariant-loop-s : goal.invariant-loop-s
