@@ -1,6 +1,6 @@
 use Rattle.std.proofs.Common.{◌≡◌, length}
 use Rattle.job_run.specs.Parties.{AllFit}
-use Rattle.worked_jobs.proofs.party_data.all_data.Given as goal
+use Rattle.worked_parts.proofs.party_data.all_data.Given as goal
 
 abbrev pub invariant-loop-p : goal.invariant-loop-p
 invariant-loop-p l = record {

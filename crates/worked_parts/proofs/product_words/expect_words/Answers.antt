@@ -1,7 +1,7 @@
 use Rattle.std.proofs.Common.{◌<◌, length, sym, subst, arith}
 use Rattle.job_plan.specs.Messages.{messages}
-use Rattle.worked_jobs.proofs.OneProduct.{length-messages}
-use Rattle.worked_jobs.proofs.schedules.expect_stopped.Goals as goal
+use Rattle.worked_parts.proofs.OneProduct.{length-messages}
+use Rattle.worked_parts.proofs.product_words.expect_words.Goals as goal
 
 pub cell-requires : goal.cell-requires
 cell-requires g c =

@@ -1,7 +1,7 @@
 use Rattle.std.proofs.Common.{◌≡◌, length, ◌<◌, sym, subst, arith, rules, replicate}
 use Rattle.circuit_model.specs.DraftSteps.{Draft}
-use Rattle.worked_jobs.proofs.ProductCircuit.{empty_draft, started, added, finished}
-use Rattle.worked_jobs.proofs.product_plan.product_circuit.Goals as goal
+use Rattle.worked_parts.proofs.ProductCircuit.{empty_draft, started, added, finished}
+use Rattle.worked_parts.proofs.product_plan.product_circuit.Goals as goal
 
 pub gate-requires : goal.gate-requires
 gate-requires c =

@@ -4,8 +4,8 @@ use Rattle.desk_laws.specs.Pieces.{ArePieces}
 use Rattle.core_world.specs.Moments.{IsRunOfPlan}
 use Rattle.job_run.specs.Pieces.{pieces_in}
 use Rattle.job_run.proofs.Worlds.{are_inputs, are_pieces, sessions_each}
-use Rattle.worked_jobs.proofs.FirstParts.{tapes_of, ok_then}
-use Rattle.worked_jobs.proofs.party_data.opened.Goals as goal
+use Rattle.worked_parts.proofs.FirstParts.{tapes_of, ok_then}
+use Rattle.worked_parts.proofs.party_data.opened.Goals as goal
 
 pub first_parts-requires : goal.first_parts-requires
 first_parts-requires c =

@@ -1,7 +1,7 @@
 use Rattle.std.proofs.Common.{◌≡◌, ◌<◌, ◌++◌, All, length, map}
 use Rattle.job_plan.specs.InputWords.{input_words}
-use Rattle.worked_jobs.proofs.FirstParts.{first, inputs_of, tapes_of}
-use Rattle.worked_jobs.proofs.party_data.first_parts.Given as goal
+use Rattle.worked_parts.proofs.FirstParts.{first, inputs_of, tapes_of}
+use Rattle.worked_parts.proofs.party_data.first_parts.Given as goal
 
 -- what was taken, and behind it what the parties' data that are left give
 abbrev pub invariant-loop-party_data : goal.invariant-loop-party_data

@@ -1,5 +1,5 @@
-use Rattle.worked_jobs.proofs.ProductPlans.{own_ring}
-use Rattle.worked_jobs.proofs.schedules.each_step_of_a_schedule.Goals as goal
+use Rattle.worked_parts.proofs.ProductPlans.{own_ring}
+use Rattle.worked_parts.proofs.schedules.each_step_of_a_schedule.Goals as goal
 
 pub expect_product-requires : goal.expect_product-requires
 expect_product-requires g c =

@@ -1,6 +1,6 @@
 use Rattle.std.proofs.Common.{◌+◌, ◌∷◌, [], length, length-append, ap, ◌∙◌}
 use Rattle.job_run.proofs.PartyForms.{fit_push}
-use Rattle.worked_jobs.proofs.party_data.all_data.Goals as goal
+use Rattle.worked_parts.proofs.party_data.all_data.Goals as goal
 
 pub loop-p-preserved : goal.loop-p-preserved
 loop-p-preserved c = record {
