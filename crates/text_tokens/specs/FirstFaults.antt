@@ -1,6 +1,6 @@
 -- What a text is by a grammar over its tokens, or the first fault that stops a reader.
 use Rattle.std.specs.Prelude.{◌≡◌, ℕ, List, [], ◌∷◌, ◌++◌, length, take}
-use Rattle.run_tokens.specs.Tokens.{Language, Placed, bare, tokens}
+use Rattle.text_tokens.specs.RunTokens.{Language, Placed, bare, tokens}
 
 -- the grammar spells something that begins with the tokens
 abbrev pub IsViable : {T Form : Type 0} → (Form → List T) → List T → Type 0

@@ -2,8 +2,8 @@
 use Rattle.std.proofs.Common.{◌≡◌, ℕ, zero, suc, ◌+◌, ◌≤◌, ◌<◌, Bool, true, false, List, [], ◌∷◌, ◌++◌, length, take, drop, refl, sym, ◌∙◌, ap, subst, append_assoc, length-append, take-append-drop, nat_le, nat_lt, arith}
 use Rattle.std.proofs.lemmas.Bool.{leb-true, leb-false, ltb-true, ltb-false}
 use Rattle.std.proofs.lemmas.List.{take_all, take-append-le, map-append}
-use Rattle.run_tokens.specs.Tokens.{Language, Placed, bare, tokens}
-use Rattle.run_tokens.specs.FirstFaults.{IsViable, AreFine, StopsAt}
+use Rattle.text_tokens.specs.RunTokens.{Language, Placed, bare, tokens}
+use Rattle.text_tokens.specs.FirstFaults.{IsViable, AreFine, StopsAt}
 
 module _ {T : Type 0} where
   pub bare-append : (ts us : List (Placed T)) → bare (ts ++ us) ≡ bare ts ++ bare us

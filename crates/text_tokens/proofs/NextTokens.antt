@@ -5,7 +5,7 @@ use Rattle.std.specs.Int.{is_in_range}
 use Rattle.std.specs.Char.{is_ascii_alphabetic, is_ascii_digit}
 use Rattle.std.proofs.lemmas.List.{drop-drop, drop_all}
 use Rattle.std.proofs.lemmas.List.Sums.{prefix_len_stops, prefix_len-drop_no}
-use Rattle.run_tokens.specs.Tokens.{Language, Placed, is_word_byte, run_begun, token_at, first_length, tokens_from}
+use Rattle.text_tokens.specs.RunTokens.{Language, Placed, is_word_byte, run_begun, token_at, first_length, tokens_from}
 
 module _ {T : Type 0} (language : Language T) where
   -- after a run, as after a blank

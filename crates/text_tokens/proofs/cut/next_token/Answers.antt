@@ -1,9 +1,9 @@
 use Rattle.std.proofs.Common.{◌+◌, ◌∷◌, ℕ, drop, sym, ◌∙◌, ap, ap₂, arith}
 use Rattle.std.specs.List.{prefix_len}
 use Rattle.std.proofs.lemmas.List.{take_rest}
-use Rattle.run_tokens.specs.Tokens.{token_at, first_length, tokens_from}
-use Rattle.run_tokens.proofs.NextTokens.{none_left, next_is}
-use Rattle.run_tokens.proofs.cut.next_token.Goals as goal
+use Rattle.text_tokens.specs.RunTokens.{token_at, first_length, tokens_from}
+use Rattle.text_tokens.proofs.NextTokens.{none_left, next_is}
+use Rattle.text_tokens.proofs.cut.next_token.Goals as goal
 
 pub returns-then-at-text-clause-found : goal.returns-then-at-text-clause-found
 returns-then-at-text-clause-found g c =

@@ -1,6 +1,6 @@
 //! What a language tells of its tokens.
 ghost use Rattle.std.specs.Prelude.{◌≡◌};
-ghost use Rattle.run_tokens.specs.Tokens.{Language};
+ghost use Rattle.text_tokens.specs.RunTokens.{Language};
 
 /// A token of a language. A word and a number may be told by the place in the text where they begin.
 pub trait RunToken: Copy {

@@ -7,7 +7,7 @@ use Rattle.std.proofs.lemmas.Bool.Decides.{nat_tests}
 use Rattle.std.proofs.lemmas.List.Elements.{All-from_recursion}
 use Rattle.std.proofs.lemmas.Str.{IsUtf8-from_ascii}
 use Rattle.std.proofs.lemmas.Str.Ascii.{IsAscii-from_all}
-use Rattle.run_tokens.specs.Tokens.{is_word_byte}
+use Rattle.text_tokens.specs.RunTokens.{is_word_byte}
 
 word_ascii : (c : ℕ) → is_word_byte c ≡ true → c < 128
 word_ascii c e = grind (arith, nat_tests)

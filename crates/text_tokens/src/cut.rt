@@ -1,9 +1,9 @@
 //! Cutting a text into tokens.
 ghost use Rattle.std.specs.Prelude.{◌≡◌, ◌∷◌, [], ◌<◌, ◌≤◌, length, MatchOption, IfSome};
-ghost use Rattle.run_tokens.specs.Tokens.{token_at, first_length, tokens_after};
+ghost use Rattle.text_tokens.specs.RunTokens.{token_at, first_length, tokens_after};
 
+use crate::run_token::RunToken;
 use crate::runs::{blank_length, number_length, word_length};
-use crate::token::RunToken;
 
 /// A token with the place where it begins, and the place after its last byte.
 #[derive(Clone, Copy, Debug, PartialEq, Eq)]

@@ -2,9 +2,9 @@
 ghost use Rattle.std.specs.Prelude.{◌≡◌, ◌≤◌, length, drop};
 ghost use Rattle.std.specs.List.{prefix_len, take_while};
 ghost use Rattle.std.specs.Char.{is_ascii_digit};
-ghost use Rattle.run_tokens.specs.Tokens.{is_word_byte};
+ghost use Rattle.text_tokens.specs.RunTokens.{is_word_byte};
 
-use crate::token::RunToken;
+use crate::run_token::RunToken;
 
 /// How many blanks stand at the front of the text.
 pub(crate) fn blank_length<T: RunToken>(text: &[u8]) -> usize

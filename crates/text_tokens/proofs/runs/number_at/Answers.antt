@@ -1,7 +1,7 @@
 use Rattle.std.proofs.Common.{List, ℕ, ◌-◌, take, drop, length, sym, subst}
 use Rattle.std.specs.Str.{IsUtf8}
-use Rattle.run_tokens.proofs.AsciiRuns.{number_utf8}
-use Rattle.run_tokens.proofs.runs.number_at.Goals as goal
+use Rattle.text_tokens.proofs.AsciiRuns.{number_utf8}
+use Rattle.text_tokens.proofs.runs.number_at.Goals as goal
 
 pub returns-in-Err : goal.returns-in-Err
 returns-in-Err c =
