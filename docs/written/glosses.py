@@ -41,7 +41,7 @@ PAGES = [
     Page('STATEMENT_OUTSIDE', 'The outside, and `command`', 'What files, outputs, threads and the net show, and the answer of `command` to any words. Then the laws of calls, of one and of two in a '
          'row, and the headline: accepted files give a good job, and of each such job the pages before say that its outputs are right in every order, no tape word is drawn twice, and a '
          'group that its file tolerates learns nothing.',
-         [('mpc_top', 'command'), ('mpc_top', 'command_alone'), ('pair_run', '*'), ('tape_map', '*'), ('walk_laws', '*'),
+         [('mpc_top', 'command'), ('mpc_top', 'command_alone'), ('tape_map', '*'), ('walk_laws', '*'),
           ('walk_laws', 'accepted_files_give_a_job'), ('walk_laws', 'accepted_jobs_are_right_and_private')]),
 ]
 # Laws that no page has: worked jobs by computation, steps of proofs, and faults of code.
@@ -105,8 +105,8 @@ HEADINGS = {
     ('outer_io', 'Count'): 'Counts of faults',
     ('outer_io', 'Inlet'): 'Inlets, from which bytes are read',
     ('outer_io', 'Jobs'): 'Jobs beside their caller, as threads are',
-    ('run_tokens', 'Tokens'): 'Tokens that are words, numbers and symbols',
-    ('run_tokens', 'FirstFaults'): 'A grammar over tokens, and the first fault',
+    ('text_tokens', 'RunTokens'): 'Tokens that are words, numbers and symbols',
+    ('text_tokens', 'FirstFaults'): 'A grammar over tokens, and the first fault',
     ('gate_lines', 'Rows'): 'Lines of a text',
     ('plain_text', 'Words'): 'The words of a text',
     ('fault_table', 'Tables'): 'What the line of a refusal tells of a fault',
@@ -133,6 +133,7 @@ HEADINGS = {
     ('group_text', 'ToldFaults'): 'The table of the faults of groups in a text',
     ('view_check', 'ToldFaults'): 'The table of the faults of views',
     ('output_text', 'CheckText'): 'The text of a check',
+    ('view_text', 'OutLines'): 'The line of an output',
     ('output_text', 'OutText'): 'The outputs of a run, in lines',
     ('output_text', 'RunText'): 'The text of a run',
     ('output_text', 'PairText'): 'The text of a pair of runs',
@@ -165,7 +166,7 @@ HEADINGS = {
     ('node_run', 'Remains'): 'What stays steady at a spawner',
     ('node_run', 'NodeRuns'): 'What a node\'s run says',
     ('node_run', 'Ready'): 'The share of a world that a party has',
-    ('fault_text', 'FaultLines'): 'The line of each fault of a node',
+    ('node_text', 'FaultLines'): 'The line of each fault of a node',
     ('desk_laws', 'Pieces'): 'Worlds from pieces of tape',
     ('view_text', 'ViewText'): 'The text of a view',
     ('view_check', 'Lines'): 'Lines and parts of a text',
@@ -329,7 +330,7 @@ OWN = {
     ('other_file', 'Table', 'other_inputs'): 'the inputs of all parties, where those that the file names have its inputs, and the others their first',
     ('view_check', 'Views', 'verdict_for'): 'the verdict on the lines after the head, where the head names this group, or none',
     ('view_check', 'Views', 'verdict_in'): 'the verdict on a head and the lines after it',
-    ('output_text', 'OutText', 'out_head'): 'a line of the output but for its words: `out SESSION VALUE READER`',
+    ('view_text', 'OutLines', 'out_head'): 'a line of the output but for its words: `out SESSION VALUE READER`',
     ('output_text', 'OutText', 'value_lines'): 'the lines of one value, one for each reader; `session_lines` those of a session, `out_text` those of a run',
     ('refusal_text', 'Lines', 'formula_line'): 'the line of a fault of the formula; so the other definitions that end in `_line`, each of the part that refuses',
     ('job_walk', 'JobOf', 'file_at'): 'the bytes of a file of the folder, or the verdict that it is missing',

@@ -1,7 +1,7 @@
 -- The steps of reading a line.
 use Rattle.std.proofs.Common.{◌≡◌, ℕ, ◌<◌, Bool, true, false, cond, List, [], ◌∷◌, length, Option, Some, None, Ok, Err, refl, sym, ◌∙◌, ap}
 use Rattle.std.proofs.lemmas.Bool.{lt-ltb}
-use Rattle.run_tokens.specs.Tokens.{Placed, tokens}
+use Rattle.text_tokens.specs.RunTokens.{Placed, tokens}
 use Rattle.expr_circuit.specs.declared.fault.ExprFault.TheVariants.{Syntax, TooDeep}
 use Rattle.expr_circuit.specs.declared.token.Token.{Token}
 use Rattle.expr_circuit.specs.Tokens.{line_language}

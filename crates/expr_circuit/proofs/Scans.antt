@@ -3,9 +3,9 @@ use Rattle.std.proofs.Common.{◌≡◌, ℕ, zero, suc, ◌<◌, ◌≤◌, ◌
 use Rattle.std.proofs.lemmas.List.{take-append-le}
 use Rattle.std.proofs.Math.Seq.{take-length}
 use Rattle.std.proofs.lemmas.Bool.{ltb-true, ltb-false}
-use Rattle.run_tokens.specs.Tokens.{Placed, bare, tokens}
-use Rattle.run_tokens.specs.FirstFaults.{AreFine, StopsAt, EndsAt}
-use Rattle.run_tokens.proofs.FirstFaults.{bare-append, viable_front, fine_last}
+use Rattle.text_tokens.specs.RunTokens.{Placed, bare, tokens}
+use Rattle.text_tokens.specs.FirstFaults.{AreFine, StopsAt, EndsAt}
+use Rattle.text_tokens.proofs.FirstFaults.{bare-append, viable_front, fine_last}
 use Rattle.expr_circuit.specs.declared.token.Token.{Token}
 use Rattle.expr_circuit.specs.declared.fault.ExprFault.{ExprFault}
 use Rattle.expr_circuit.specs.declared.fault.ExprFault.TheVariants.{Syntax, TooDeep}

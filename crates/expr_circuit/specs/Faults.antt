@@ -2,9 +2,9 @@
 use Rattle.std.specs.Prelude.{◌≡◌, ℕ, ◌+◌, ◌≤◌, nat_lt, ◌⊎◌, Bool, true, false, List, [], ◌∷◌, length, drop, Option, Some, None, if◌then◌else◌}
 use Rattle.std.specs.List.{slice_split}
 use Rattle.std.specs.Option.{option_or}
-use Rattle.run_tokens.specs.Tokens.{tokens}
-use Rattle.run_tokens.specs.FirstFaults as faults
-use Rattle.run_tokens.specs.FirstFaults.{StopsAt, EndsAt}
+use Rattle.text_tokens.specs.RunTokens.{tokens}
+use Rattle.text_tokens.specs.FirstFaults as faults
+use Rattle.text_tokens.specs.FirstFaults.{StopsAt, EndsAt}
 use Rattle.expr_circuit.specs.declared.token.Token.{Token}
 use Rattle.expr_circuit.specs.declared.token.Token.TheVariants.{Name, Number, Minus, Open, Close}
 use Rattle.expr_circuit.specs.declared.fault.ExprFault.{ExprFault}

@@ -1,7 +1,7 @@
 -- The tokens of a line.
 use Rattle.std.specs.Prelude.{ℕ, Bool, ◌||◌, nat_eq, nat_le, List, length, if◌then◌else◌, codes}
 use Rattle.std.specs.Str.{bytes_eq}
-use Rattle.run_tokens.specs.Tokens.{Language}
+use Rattle.text_tokens.specs.RunTokens.{Language}
 use Rattle.expr_circuit.specs.declared.token.Token.{Token}
 use Rattle.expr_circuit.specs.declared.token.Token.TheVariants.{Input, Let, Output, Name, Number, Equals, Plus, Minus, Times, Open, Close, Unknown}
 use Rattle.expr_circuit.specs.declared.limits.TheConstants.{LONGEST_NAME}

@@ -3,7 +3,7 @@ use Rattle.std.specs.Prelude.{ℕ, ◌+◌, ◌^◌, nat_lt, Bool, true, false, 
 use Rattle.std.specs.Str.Lossy.{utf8_valid_len}
 use Rattle.circuit_model.specs.declared.gate.Operation.{Operation}
 use Rattle.circuit_model.specs.declared.gate.Operation.TheVariants.{Add, Sub, Neg, Mul, Eq}
-use Rattle.run_tokens.specs.Tokens.{Placed, tokens}
+use Rattle.text_tokens.specs.RunTokens.{Placed, tokens}
 use Rattle.expr_circuit.specs.declared.fault.ExprFault.{ExprFault}
 use Rattle.expr_circuit.specs.declared.fault.ExprFault.TheVariants.{NotUtf8, Syntax, UnknownName, BadConstant, TooDeep, TwiceNamed, TooLarge}
 use Rattle.expr_circuit.specs.declared.node.Node.{Node}

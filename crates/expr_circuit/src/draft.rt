@@ -15,8 +15,8 @@ use crate::parser::Parser;
 use crate::wire::{Pending, Wire};
 use circuit_model::Circuit;
 use mpc_ring::Ring;
-use run_tokens::word_bytes;
 use std::alloc::Global;
+use text_tokens::word_bytes;
 
 /// What the lines so far make: the wire of each name, and gates.
 #[derive(Drop)]

@@ -14,9 +14,9 @@ use crate::node::Node;
 use crate::wire::{Pending, Step, Wire};
 use circuit_model::{Circuit, MOST_GATES, MOST_VALUES, Operation};
 use mpc_ring::Ring;
-use run_tokens::word_bytes;
 use std::alloc::{AllocError, Global};
 use std::marker::Model;
+use text_tokens::word_bytes;
 
 /// The gates and the wires of outputs. Those that are past a limit are counted, and not kept.
 #[derive(Drop)]

@@ -8,7 +8,7 @@ use crate::line::Line;
 use crate::node::Head;
 use crate::parser::Parser;
 use crate::token::Token;
-use run_tokens::next_token;
+use text_tokens::next_token;
 
 /// The line, none where it has no tokens, or the fault of its first token that has one.
 pub(crate) fn parse_line(parser: &mut Parser, line: &Line<'_>) -> Result<Option<Head>, ExprFault>

@@ -6,9 +6,9 @@ use Rattle.group_formula.specs.declared.token.Token.{Token}
 use Rattle.group_formula.specs.declared.token.Token.TheVariants.{Name, Number, Of, Bar, Ampersand, Open, Close, Comma}
 use Rattle.group_formula.specs.declared.node.Node.{Node}
 use Rattle.group_formula.specs.declared.parser.Mode.TheVariants as modes
-use Rattle.run_tokens.specs.Tokens.{Placed, bare, tokens, tokens_after}
-use Rattle.run_tokens.specs.FirstFaults.{AreFine, StopsAt, EndsAt}
-use Rattle.run_tokens.proofs.FirstFaults.{bare_last, fine_more, fine_none, fine_last}
+use Rattle.text_tokens.specs.RunTokens.{Placed, bare, tokens, tokens_after}
+use Rattle.text_tokens.specs.FirstFaults.{AreFine, StopsAt, EndsAt}
+use Rattle.text_tokens.proofs.FirstFaults.{bare_last, fine_more, fine_none, fine_last}
 use Rattle.group_formula.specs.Tokens.{formula_language, is_node}
 use Rattle.group_formula.specs.Grammar.{Expr, Term, spell, shape, IsViable}
 use Rattle.group_formula.specs.Postfix.{postfix}

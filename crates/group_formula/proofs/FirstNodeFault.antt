@@ -12,7 +12,7 @@ use Rattle.group_formula.specs.declared.node.Node.TheVariants.{Name, And, Or, At
 use Rattle.group_formula.specs.declared.fault.FormulaFault.{FormulaFault}
 use Rattle.group_formula.specs.declared.fault.FormulaFault.TheVariants.{UnknownName, BadCount}
 use Rattle.text_tokens.specs.Tokens.{is_blank}
-use Rattle.run_tokens.specs.Tokens.{bare, is_word_byte, run_begun, token_at, tokens_from}
+use Rattle.text_tokens.specs.RunTokens.{bare, is_word_byte, run_begun, token_at, tokens_from}
 use Rattle.group_formula.specs.Tokens.{formula_language, symbol, word_token}
 use Rattle.group_formula.specs.Trees.{tree_count}
 use Rattle.group_formula.specs.Postfix.{postfix, postfix_all}

@@ -13,8 +13,8 @@ use Rattle.group_formula.specs.declared.node.Node.TheVariants.{And, Or, AtLeast}
 use Rattle.group_formula.specs.declared.fault.FormulaFault.{FormulaFault}
 use Rattle.group_formula.specs.declared.fault.FormulaFault.TheVariants.{UnknownName, BadCount}
 use Rattle.text_tokens.specs.Tokens.{is_blank}
-use Rattle.run_tokens.specs.Tokens.{bare, tokens}
-use Rattle.run_tokens.proofs.FirstFaults.{fine_last}
+use Rattle.text_tokens.specs.RunTokens.{bare, tokens}
+use Rattle.text_tokens.proofs.FirstFaults.{fine_last}
 use Rattle.group_formula.specs.Tokens.{formula_language, is_node}
 use Rattle.group_formula.specs.Trees.{Tree, Trees, tree_count, IsSoundTree, AreSound}
 use Rattle.group_formula.specs.Postfix.{postfix, postfix_all, tree_of}

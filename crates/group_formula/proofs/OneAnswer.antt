@@ -5,9 +5,9 @@ use Rattle.std.proofs.lemmas.Bool.{leb-true, leb-false}
 use Rattle.group_formula.specs.declared.token.Token.{Token}
 use Rattle.group_formula.specs.declared.fault.FormulaFault.{FormulaFault}
 use Rattle.group_formula.specs.declared.fault.FormulaFault.TheVariants.{Syntax, UnknownName, BadCount, TooDeep, TooManyNodes, Memory}
-use Rattle.run_tokens.specs.Tokens.{Placed, bare, tokens}
-use Rattle.run_tokens.specs.FirstFaults.{AreFine}
-use Rattle.run_tokens.proofs.FirstFaults.{bare_last, fine_more, stop, no_stop, same_place, both_stop}
+use Rattle.text_tokens.specs.RunTokens.{Placed, bare, tokens}
+use Rattle.text_tokens.specs.FirstFaults.{AreFine}
+use Rattle.text_tokens.proofs.FirstFaults.{bare_last, fine_more, stop, no_stop, same_place, both_stop}
 use Rattle.group_formula.specs.Tokens.{formula_language, is_node}
 use Rattle.group_formula.specs.Grammar.{Expr, Term, shape, IsViable}
 use Rattle.group_formula.specs.Grammar.Expr.{one_term, or_term}

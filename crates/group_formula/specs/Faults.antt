@@ -1,7 +1,7 @@
 -- The faults that a first pass over the tokens finds.
 use Rattle.std.specs.Prelude.{ℕ, ◌+◌, ◌≤◌, ◌⊎◌, Bool, true, false, List, count_by}
-use Rattle.run_tokens.specs.FirstFaults as faults
-use Rattle.run_tokens.specs.FirstFaults.{StopsAt, EndsAt}
+use Rattle.text_tokens.specs.FirstFaults as faults
+use Rattle.text_tokens.specs.FirstFaults.{StopsAt, EndsAt}
 use Rattle.group_formula.specs.declared.token.Token.{Token}
 use Rattle.group_formula.specs.declared.token.Token.TheVariants.{Open, Close}
 use Rattle.group_formula.specs.declared.fault.FormulaFault.{FormulaFault}

@@ -3,7 +3,7 @@ use Rattle.std.specs.Prelude.{◌≡◌, ℕ, ◌+◌, ◌-◌, ◌*◌, ◌⊎�
 use Rattle.std.specs.List.{take_while}
 use Rattle.std.specs.Char.{is_ascii_digit}
 use Rattle.party_set.specs.Names.{party_named}
-use Rattle.run_tokens.specs.Tokens.{is_word_byte}
+use Rattle.text_tokens.specs.RunTokens.{is_word_byte}
 use Rattle.group_formula.specs.declared.fault.FormulaFault.{FormulaFault}
 use Rattle.group_formula.specs.declared.fault.FormulaFault.TheVariants.{UnknownName, BadCount, Memory}
 use Rattle.group_formula.specs.Trees.{Tree, Trees, Meaning, tree_count}

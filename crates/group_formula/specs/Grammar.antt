@@ -1,6 +1,6 @@
 -- The grammar of formulas over tokens.
 use Rattle.std.specs.Prelude.{ℕ, List, [], ◌∷◌, ◌++◌}
-use Rattle.run_tokens.specs.FirstFaults as faults
+use Rattle.text_tokens.specs.FirstFaults as faults
 use Rattle.group_formula.specs.declared.token.Token.{Token}
 use Rattle.group_formula.specs.declared.token.Token.TheVariants.{Name, Number, Of, Bar, Ampersand, Open, Close, Comma}
 use Rattle.group_formula.specs.Trees.{Tree, Trees}

@@ -7,8 +7,8 @@ use crate::limits::{MOST_NODES, MOST_OPEN};
 use crate::node::Node;
 use crate::parser::Parser;
 use crate::token::Token;
-use run_tokens::next_token;
 use std::alloc::Global;
+use text_tokens::next_token;
 
 /// The nodes of the formula in postfix order, its names and numbers told by their places, or the fault of the first
 /// token that has one.

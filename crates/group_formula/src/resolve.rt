@@ -8,7 +8,7 @@ use crate::fault::FormulaFault;
 use crate::formula::Formula;
 use crate::node::Node;
 use party_set::Names;
-use run_tokens::{number_at, word_at};
+use text_tokens::{number_at, word_at};
 
 /// The party of the name that stands at this place.
 fn party_at(text: &[u8], names: &Names, at: usize) -> Option<usize>

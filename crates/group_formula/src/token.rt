@@ -2,8 +2,7 @@
 ghost use Rattle.std.specs.Prelude.{◌≡◌};
 ghost use Rattle.group_formula.specs.Tokens.{is_node};
 
-use run_tokens::RunToken;
-use text_tokens::is_blank;
+use text_tokens::{RunToken, is_blank};
 
 /// A token. A name and a number are told by the place in the text where they begin.
 #[derive(Clone, Copy, Debug, PartialEq, Eq)]

@@ -7,8 +7,8 @@ use Rattle.outer_io.specs.Jobs.{SpawnerReading}
 use Rattle.outer_io.specs.Links.{NetReading}
 use Rattle.outer_io.specs.Sink.{SinkReading, Writes, FailsToWrite}
 use Rattle.command_words.specs.Commands.{CommandForm}
-use Rattle.fault_text.specs.FaultLines.{fault_line}
 use Rattle.node_talk.specs.Runs.{Results}
+use Rattle.node_text.specs.FaultLines.{fault_line}
 use Rattle.job_walk.specs.declared.stop.Stop.{Stop}
 use Rattle.job_walk.specs.declared.stop.Stop.TheVariants.{Words, Refused, Covering, Files, Out, Net, Peer, Memory}
 use Rattle.job_walk.specs.Stops.{status_of}

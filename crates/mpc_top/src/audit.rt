@@ -15,10 +15,10 @@ ghost use Rattle.mpc_top.specs.Outcomes.{RunsAlone};
 
 use crate::parties::read_parties;
 use job_plan::Inputs;
+use job_run::{inputs_of, tapes_of};
 use job_walk::{Planned, Stop, read_file, read_planned, refusal};
 use outer_io::{Files, Sink};
 use output_text::write_yes;
-use pair_run::{inputs_of, tapes_of};
 use refusal_text::view_line;
 use std::alloc::Global;
 use view_check::{CheckFault, check};

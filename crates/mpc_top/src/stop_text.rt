@@ -3,8 +3,8 @@ ghost use Rattle.std.specs.Prelude.{◌≡◌, IsOk};
 ghost use Rattle.outer_io.specs.Sink.{Writes};
 ghost use Rattle.mpc_top.specs.Outcomes.{text_of};
 
-use fault_text::write_fault;
 use job_walk::Stop;
+use node_text::write_fault;
 use outer_io::{Failed, Sink, write_pieces};
 
 /// Writes the text of a stop; where memory ran out there is none, and the sink is left alone.

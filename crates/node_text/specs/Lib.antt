@@ -1,1 +1,2 @@
 pub mod NodeText
+pub mod FaultLines

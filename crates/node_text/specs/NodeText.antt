@@ -11,7 +11,7 @@ use Rattle.job_plan.specs.declared.key.Key.{Key}
 use Rattle.share_world.specs.Worlds.{touches}
 use Rattle.node_talk.specs.Runs.{Results, word_kept, output_of, kept_view}
 use Rattle.view_text.specs.ViewText.{view_text}
-use Rattle.output_text.specs.OutText.{out_line, output_value, wires_before}
+use Rattle.view_text.specs.OutLines.{out_line, output_value, wires_before}
 
 -- the words of `width` output wires of session s, from wire `first` on
 abbrev pub output_words : Results → ℕ → ℕ → ℕ → List ℕ

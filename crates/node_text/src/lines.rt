@@ -6,7 +6,7 @@ ghost use Rattle.job_plan.specs.Plans.{session};
 ghost use Rattle.job_plan.specs.Messages.{messages};
 ghost use Rattle.job_plan.specs.Sound.{IsSound};
 ghost use Rattle.text_parts.specs.Parts.{words_text};
-ghost use Rattle.output_text.specs.OutText.{wires_before};
+ghost use Rattle.view_text.specs.OutLines.{wires_before};
 ghost use Rattle.node_text.specs.NodeText.{node_text, outputs_text, session_lines, value_line, output_words};
 
 use crate::view::gather_view;
@@ -14,9 +14,9 @@ use circuit_model::MOST_WIRES;
 use job_plan::Plan;
 use node_run::NodeDone;
 use outer_io::{Blocks, Failed, Gather, Sink};
-use output_text::{gather_head, is_read, value_of};
 use party_set::{MOST_PARTIES, Names};
 use text_parts::gather_word;
+use view_text::{gather_out_head, is_read, value_of};
 
 /// The party of a node that is done, which reads its outputs.
 #[derive(Clone, Copy)]
@@ -117,7 +117,7 @@ fn gather_value<G: Gather>(out: &mut G, reader: &Reader<'_>, s: u32, v: usize, f
     if !is_read(reader.plan, s, v, reader.party) {
         return;
     }
-    gather_head(out, s, v, reader.name);
+    gather_out_head(out, s, v, reader.name);
     gather_words(
         out,
         reader.done,

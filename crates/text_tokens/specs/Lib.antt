@@ -1,2 +1,4 @@
 pub mod Tokens
 pub mod Numbers
+pub mod RunTokens
+pub mod FirstFaults

@@ -1,1 +1,2 @@
 pub mod SeenMessages
+pub mod OutputWires

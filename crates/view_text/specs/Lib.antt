@@ -1,2 +1,3 @@
 pub mod ViewText
 pub mod Seen
+pub mod OutLines

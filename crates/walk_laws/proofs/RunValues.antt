@@ -29,7 +29,8 @@ use Rattle.plan_faults.specs.Counts.{counts_fault}
 use Rattle.share_world.specs.Made.{made_of}
 use Rattle.share_world.specs.Worlds.{World, first_values, plain}
 use Rattle.share_world.proofs.MadeSessions.{made_has_values}
-use Rattle.output_text.specs.OutText.{no_output, output_value, wires_before, value_words}
+use Rattle.view_text.specs.OutLines.{no_output, output_value, wires_before}
+use Rattle.output_text.specs.OutText.{value_words}
 use Rattle.job_file.specs.Forms.{JobForm, SessionForm}
 use Rattle.job_file.specs.Faults.{job_in}
 use Rattle.job_file.specs.Products.{are_prepared, come_ahead}

@@ -1,1 +1,6 @@
 mod NewSeats
+mod FirstParts
+mod OneProduct
+mod OneSession
+mod ProductCircuit
+mod ProductPlans

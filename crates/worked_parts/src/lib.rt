@@ -1,5 +1,5 @@
 //! Worked cases of what no call of the program shows: cells that are filled twice, an item that is out, files and sinks
-//! in memory that fail, and a tape that ends.
+//! in memory that fail, a tape that ends, and a worked product, word by word and step by step.
 #![tactic(auto)]
 
 /// That both are equal; the text of the first stands where they are not. It is a call, since the proof of a call is far
@@ -18,9 +18,17 @@ mod check;
 #[cfg(test)]
 mod files;
 #[cfg(test)]
+mod party_data;
+#[cfg(test)]
 mod plain_cells;
 #[cfg(test)]
+mod product_plan;
+#[cfg(test)]
+mod product_words;
+#[cfg(test)]
 mod racks;
+#[cfg(test)]
+mod schedules;
 #[cfg(test)]
 mod sinks;
 #[cfg(test)]

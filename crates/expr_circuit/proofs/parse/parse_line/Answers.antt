@@ -1,7 +1,7 @@
 use Rattle.std.proofs.Common.{sym, ◌∙◌, ap, arith, length}
 use Rattle.expr_circuit.specs.Kept.{read_kept}
 use Rattle.expr_circuit.specs.Walks.{or_end}
-use Rattle.run_tokens.specs.Tokens.{tokens_after}
+use Rattle.text_tokens.specs.RunTokens.{tokens_after}
 use Rattle.expr_circuit.specs.Tokens.{line_language}
 use Rattle.expr_circuit.proofs.ParseSteps.{stuck_there, deep_there, blank_there, ended_there}
 use Rattle.expr_circuit.proofs.parse.parse_line.Goals as goal

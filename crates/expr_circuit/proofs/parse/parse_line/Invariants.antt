@@ -1,5 +1,5 @@
 use Rattle.std.proofs.Common.{◌≡◌, ◌≤◌, ◌-◌, length}
-use Rattle.run_tokens.specs.Tokens.{tokens, tokens_after}
+use Rattle.text_tokens.specs.RunTokens.{tokens, tokens_after}
 use Rattle.expr_circuit.specs.Tokens.{line_language}
 use Rattle.expr_circuit.specs.Machine.{start, depth}
 use Rattle.expr_circuit.specs.Walks.{scan}

@@ -2,7 +2,7 @@ use Rattle.std.proofs.Common.{◌≡◌, ◌≤◌, true, Bool, Ok, sym, ◌∙�
 use Rattle.group_formula.specs.Tokens.{is_node}
 use Rattle.group_formula.specs.Machine.{step}
 use Rattle.group_formula.specs.Kept.{Advances}
-use Rattle.run_tokens.specs.Tokens.{bare}
+use Rattle.text_tokens.specs.RunTokens.{bare}
 use Rattle.group_formula.proofs.FaultlessTokens.{one_if, Going, Moved, moves, stuck, stops, goes_next, too_deep, too_many, few, not_done, parsed, begins}
 use Rattle.group_formula.proofs.parse.parse.Goals as goal
 use Rattle.group_formula.proofs.parse.parse.Goals.{then-is_node+else-nodes-eq-MOST_NODES, else-is_node}

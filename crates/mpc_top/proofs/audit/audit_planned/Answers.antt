@@ -10,7 +10,7 @@ use Rattle.share_world.specs.Worlds.{World, view}
 use Rattle.share_world.specs.Laws.{IsWhole}
 use Rattle.wire_tables.specs.WireTables.{world_given}
 use Rattle.job_run.specs.Parties.{AllFit, world_of}
-use Rattle.pair_run.proofs.PairWorlds.{parties_whole, world_is}
+use Rattle.job_run.proofs.PairWorlds.{parties_whole, world_is}
 use Rattle.command_words.specs.Commands.{audit}
 use Rattle.job_walk.specs.declared.stop.Stop.{Stop}
 use Rattle.job_walk.specs.Reads.{WalksAs}

@@ -3,10 +3,10 @@ use Rattle.list_laws.proofs.Totals.{total_more}
 use Rattle.job_session.specs.declared.values.OutputValue.{OutputValue}
 use Rattle.job_session.specs.Sessions.{Session}
 use Rattle.job_plan.specs.Plans.{session}
-use Rattle.output_text.specs.OutText.{output_value}
+use Rattle.view_text.specs.OutLines.{output_value}
 use Rattle.outer_io.proofs.GatheredTexts.{adds_nothing}
 use Rattle.text_parts.proofs.GatheredTexts.{adds_more}
-use Rattle.output_text.proofs.OpenedOutputs.{few_wires}
+use Rattle.view_text.proofs.OutputWires.{few_wires}
 use Rattle.node_text.specs.NodeText.{value_line}
 use Rattle.node_text.proofs.lines.gather_session.Goals as goal
 

@@ -5,8 +5,8 @@ use Rattle.text_parts.proofs.GatheredTexts.{adds_same}
 use Rattle.party_set.specs.Parties.{has_party}
 use Rattle.job_session.specs.declared.values.OutputValue.{OutputValue}
 use Rattle.job_plan.specs.Plans.{session}
-use Rattle.output_text.specs.OutText.{out_line, output_value}
-use Rattle.output_text.proofs.OpenedOutputs.{few_wires}
+use Rattle.view_text.specs.OutLines.{out_line, output_value}
+use Rattle.view_text.proofs.OutputWires.{few_wires}
 use Rattle.node_text.specs.NodeText.{output_words}
 use Rattle.node_text.proofs.lines.gather_value.Goals as goal
 
@@ -26,4 +26,4 @@ returns g c =
     let wide = ap (λ (v : OutputValue). v.width) c.value_of.ensures in
     let line = λ (n : ℕ) (m : ℕ). out_line c.args.s c.args.v c.args.reader.now.name.now (output_words c.args.reader.now.done.now c.args.s n m) in
     adds_same _ _ _ _ (ap₂ line c.requires.first wide ∙ sym (cond-true (has_party (output_value (session c.args.reader.now.plan.now c.args.s) c.args.v).readers.mask c.args.reader.now.party) _ [] reads))
-    (adds_then _ _ _ _ _ c.gather_head.ensures (adds_then _ _ _ _ _ c.gather_words.ensures c.push.ensures))
+    (adds_then _ _ _ _ _ c.gather_out_head.ensures (adds_then _ _ _ _ _ c.gather_words.ensures c.push.ensures))

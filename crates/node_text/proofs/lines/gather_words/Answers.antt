@@ -5,7 +5,7 @@ use Rattle.list_laws.specs.Lists.{joined}
 use Rattle.outer_io.proofs.GatheredTexts.{adds_nothing}
 use Rattle.text_parts.proofs.GatheredTexts.{adds_same, adds_more}
 use Rattle.node_talk.specs.Runs.{output_of}
-use Rattle.output_text.proofs.OpenedOutputs.{words_joined}
+use Rattle.view_text.proofs.OutputWires.{words_joined}
 use Rattle.node_text.proofs.lines.gather_words.Goals as goal
 
 pub loop-i-init : goal.loop-i-init

@@ -1,3 +1,0 @@
-pub mod PartyCopies
-pub mod CutTapes
-pub mod PairWorlds

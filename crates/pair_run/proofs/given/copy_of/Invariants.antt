@@ -1,7 +1,0 @@
-use Rattle.std.proofs.Common.{◌≡◌, take}
-use Rattle.job_plan.specs.InputWords.{session_words}
-use Rattle.pair_run.proofs.given.copy_of.Given as goal
-
--- the sessions so far
-abbrev pub invariant-loop-words : goal.invariant-loop-words
-invariant-loop-words l = session_words l.copy.items ≡ session_words (take l.words-index l.sessions)

@@ -1,3 +1,0 @@
-pub mod NextTokens
-pub mod AsciiRuns
-pub mod FirstFaults
