@@ -6,5 +6,5 @@
 mod numbers;
 mod tokens;
 
-pub use numbers::{is_decimal, is_digits, number};
+pub use numbers::{is_decimal, is_digits, number, with_digit};
 pub use tokens::{Tokens, is_blank};
