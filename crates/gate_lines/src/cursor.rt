@@ -2,7 +2,7 @@
 ghost use Rattle.std.specs.Prelude.{◌≡◌, ◌<◌, ◌≤◌, ◌+◌, ◌-◌, ◌*◌, ◌^◌, ℕ, true, false, not, length, drop, slice_index, slice_range, IfSome, Some, IfNone, MatchOption, [], ◌∷◌, if◌then◌else◌};
 ghost use Rattle.std.specs.List.{list_all};
 ghost use Rattle.std.specs.Bool.{OnTrue};
-ghost use Rattle.std.specs.Option.{SomeIff, option_map, is_some};
+ghost use Rattle.std.specs.Option.{option_map, is_some};
 ghost use Rattle.std.specs.Char.{is_ascii_digit};
 ghost use Rattle.std.specs.Str.Parse.{digits_value};
 ghost use Rattle.text_tokens.specs.Tokens.{is_blank};
@@ -11,7 +11,7 @@ ghost use Rattle.gate_lines.specs.Places.{place_in, rows_at, next_token, past_to
 
 use crate::lines::Lines;
 use std::marker::Model;
-use text_tokens::is_blank;
+use text_tokens::{is_blank, with_digit};
 
 /// Whether a byte is a blank within a line.
 #[inline(always)]
@@ -47,14 +47,6 @@ fn first_token(mut number: u64, bytes: &[u8]) -> (u64, usize)
         at = blanks_end(bytes, at + 1);
     }
     (number, at)
-}
-
-/// A number with one digit more, if it is below `2^64`.
-fn with_digit(value: u64, digit: u8) -> Option<u64>
-    requires { is_ascii_digit digit ≡ true }
-    ensures { SomeIff result (value * 10 + (digit - 48) < 2 ^ 64) (value * 10 + (digit - 48)) }
-{
-    value.checked_mul(10)?.checked_add(u64::from(digit - b'0'))
 }
 
 /// Whether a space stands at a place, and no blank after it.

@@ -7,7 +7,6 @@ pub mod FaultlessTokens
 pub mod NodeValues
 pub mod FirstNodeFault
 pub mod Numbers
-pub mod NamedParties
 pub mod ResolvedNodes
 pub mod Meaning
 pub mod OneAnswer

@@ -1,8 +1,8 @@
 -- Numbers that digits write.
-use Rattle.std.proofs.Common.{◌≡◌, ℕ, ◌+◌, ◌-◌, ◌*◌, ◌^◌, ◌≤◌, ◌<◌, Bool, true, false, cond, ◌&&◌, nat_le, nat_lt, List, [], ◌∷◌, ◌++◌, length, take, drop, get_or, Some, None, refl, sym, ◌∙◌, ap, arith}
+use Rattle.std.proofs.Common.{◌≡◌, ℕ, ◌+◌, ◌-◌, ◌*◌, ◌^◌, ◌≤◌, ◌<◌, Bool, true, false, cond, ◌&&◌, nat_le, List, [], ◌∷◌, ◌++◌, length, take, drop, get_or, Some, None, refl, sym, ◌∙◌, ap, arith}
 use Rattle.std.specs.List.{prefix_len, take_while}
 use Rattle.std.specs.Char.{is_ascii_digit}
-use Rattle.std.proofs.lemmas.Bool.{leb-true, ltb-false, lt-leb}
+use Rattle.std.proofs.lemmas.Bool.{lt-leb}
 use Rattle.std.proofs.lemmas.List.{take_more, take-append-drop, get_or-take}
 use Rattle.std.proofs.lemmas.List.Sums.{prefix_len_passes}
 use Rattle.std.proofs.lemmas.List.Folds.{length-prefix_len}
@@ -22,34 +22,18 @@ decimal_grows n (d ∷ ds) = omega (arith, decimal_grows (10 * n + (d - 48)) ds)
 decimal_le : (ds : List ℕ) (i : ℕ) → decimal (take i ds) ≤ decimal ds
 decimal_le ds i = omega (arith, decimal_grows (decimal (take i ds)) (drop i ds), sym (decimal-append 0 (take i ds) (drop i ds)) ∙ ap decimal (take-append-drop i ds))
 
-digit_from : (c : ℕ) → is_ascii_digit c ≡ true → 48 ≤ c
-digit_from c e = go (nat_le 48 c) (nat_le c 57) refl e
-  where
-    go : (a b : Bool) → nat_le 48 c ≡ a → (a && b) ≡ true → 48 ≤ c
-    go true b f e = leb-true 48 c f
-    go false b f e = cc
-
 -- each of the digits is one
-pub digit_at : (xs ds : List ℕ) (i : ℕ) → ds ≡ take_while is_ascii_digit xs → i < length ds → 48 ≤ get_or ds i 0
+pub digit_at : (xs ds : List ℕ) (i : ℕ) → ds ≡ take_while is_ascii_digit xs → i < length ds → is_ascii_digit (get_or ds i 0) ≡ true
 digit_at xs ds i e l =
     let within : i < prefix_len is_ascii_digit xs = omega (arith, ap length e, length-prefix_len is_ascii_digit xs) in
-    digit_from (get_or ds i 0)
-    (ap (λ ys. is_ascii_digit (get_or ys i 0)) e ∙ ap is_ascii_digit (get_or-take (prefix_len is_ascii_digit xs) xs i 0 within) ∙ prefix_len_passes is_ascii_digit xs i 0 within)
+    ap (λ ys. is_ascii_digit (get_or ys i 0)) e ∙ ap is_ascii_digit (get_or-take (prefix_len is_ascii_digit xs) xs i 0 within) ∙ prefix_len_passes is_ascii_digit xs i 0 within
 
--- a number that does not fit
-pub refused_digit : (n most : ℕ) → cond (nat_lt n most) (Some n) None ≡ None → most ≤ n
-refused_digit n most e = go (nat_lt n most) refl e
-  where
-    go : (b : Bool) → nat_lt n most ≡ b → cond b (Some n) None ≡ None → most ≤ n
-    go true f e = cc
-    go false f e = ltb-false n most f
+-- a number that does not fit, and one that does
+pub refused_digit : (n d most : ℕ) → (n * 10 + d < most → ⊥) → most ≤ 10 * n + d
+refused_digit n d most over = omega arith
 
-pub taken_digit : (n m most : ℕ) → cond (nat_lt n most) (Some n) None ≡ Some m → m ≡ n
-taken_digit n m most e = go (nat_lt n most) e
-  where
-    go : (b : Bool) → cond b (Some n) None ≡ Some m → m ≡ n
-    go true e = cc
-    go false e = cc
+pub taken_digit : (n d m : ℕ) → m ≡ n * 10 + d → m ≡ 10 * n + d
+taken_digit n d m is = omega arith
 
 no_count : (a : Bool) (v parts : ℕ) → nat_le v parts ≡ false → cond (a && nat_le v parts) (Some v) None ≡ None
 no_count true v parts e = ap (λ b. cond b (Some v) None) e

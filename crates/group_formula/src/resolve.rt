@@ -1,5 +1,5 @@
 //! The second pass: what the names and the numbers mean.
-ghost use Rattle.std.specs.Prelude.{◌≡◌, ◌≤◌, ◌+◌, ◌*◌, ◌^◌, ◌&&◌, nat_lt, map, MatchResult, Option, Some, None, if◌then◌else◌};
+ghost use Rattle.std.specs.Prelude.{◌≡◌, ◌*◌, ◌&&◌, map, MatchResult, Option, Some, None};
 ghost use Rattle.group_formula.specs.Formulas.{number_in_text, reading, IsFormula, IsSecondFault};
 ghost use Rattle.group_formula.specs.Resolved.{good_count, meaning, earlier, least, resolved_node};
 ghost use Rattle.group_formula.specs.Parsed.{IsParsed};
@@ -8,27 +8,7 @@ use crate::fault::FormulaFault;
 use crate::formula::Formula;
 use crate::node::Node;
 use party_set::Names;
-use text_tokens::{number_at, word_at};
-
-/// The party of the name that stands at this place.
-fn party_at(text: &[u8], names: &Names, at: usize) -> Option<usize>
-    ensures { result ≡ (reading text.now names.now).party at }
-{
-    let name = word_at(text, at);
-    for p in 0..names.len() {
-        if names.name(p) == name {
-            return Some(p as usize);
-        }
-    }
-    None
-}
-
-/// The number with one more decimal digit, if it fits.
-fn with_digit(number: usize, digit: u8) -> Option<usize>
-    ensures { result ≡ (if nat_lt (10 * number + digit) (2 ^ 64) then Some (10 * number + digit) else None) }
-{
-    number.checked_mul(10)?.checked_add(usize::from(digit))
-}
+use text_tokens::{number_at, with_digit, word_at};
 
 /// The number that stands at this place, if it is at least 1 and at most `parts`.
 fn count_at(text: &[u8], at: usize, parts: usize) -> Option<usize>
@@ -37,10 +17,10 @@ fn count_at(text: &[u8], at: usize, parts: usize) -> Option<usize>
     let digits = number_at(text, at).as_bytes();
     let mut number = 0;
     for byte in digits {
-        number = with_digit(number, byte - b'0')?;
+        number = with_digit(number, *byte)?;
     }
-    if 1 <= number && number <= parts {
-        Some(number)
+    if 1 <= number && number <= parts as u64 {
+        Some(number as usize)
     } else {
         None
     }
@@ -51,8 +31,8 @@ fn resolve_node(text: &[u8], names: &Names, node: Node) -> Result<Node, FormulaF
     ensures { result ≡ meaning (reading text.now names.now) node }
 {
     match node {
-        Node::Name(at) => match party_at(text, names, at) {
-            Some(party) => Ok(Node::Name(party)),
+        Node::Name(at) => match names.number(word_at(text, at)) {
+            Some(party) => Ok(Node::Name(party as usize)),
             None => Err(FormulaFault::UnknownName { at: at as u64 }),
         },
         Node::AtLeast { number: at, parts } => match count_at(text, at, parts) {

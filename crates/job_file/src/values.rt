@@ -20,7 +20,7 @@ use crate::texts::layout_of;
 use circuit_model::CircuitLayout;
 use mpc_ring::Ring;
 use outer_io::Hosts;
-use party_set::{Group, MOST_PARTIES, NameText, Names, with_party};
+use party_set::{Group, MOST_PARTIES, NameText, Names, group_of_mask, with_party};
 use plan_faults::MOST_SESSIONS;
 use std::alloc::{AllocError, Global};
 use toml::{Table, Value};
@@ -81,7 +81,7 @@ fn group_of(readers: &[Value], names: &Names) -> Group
     } }
 {
     let parties = names.len();
-    Group::of_mask(mask_of(readers, names), parties).unwrap_or(Group::empty(parties))
+    group_of_mask(mask_of(readers, names), parties)
 }
 
 fn groups_of(alloc: Global, values: &[Value], names: &Names) -> Result<Vec<Group>, AllocError>

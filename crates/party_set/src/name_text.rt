@@ -40,13 +40,6 @@ impl NameText {
     {
         self.text.as_str()
     }
-
-    /// The text itself.
-    pub fn into_string(self) -> String
-        ensures { string_bytes result ≡ self }
-    {
-        self.text
-    }
 }
 
 impl PartialEq for NameText {

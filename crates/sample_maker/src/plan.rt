@@ -9,7 +9,7 @@ ghost use Rattle.sample_maker.specs.Samples.{sample_plan, sample_session};
 use crate::circuit::{sample_circuit, sample_ring};
 use circuit_model::MOST_GATES;
 use job_plan::{Owner, Plan, SessionPart};
-use party_set::{Group, Groups};
+use party_set::{Groups, group_of_mask};
 use plan_faults::{PartFault, PlanFault};
 use product_duty::Duty;
 use share_layout::Layout;
@@ -37,15 +37,12 @@ fn three_groups(alloc: Global) -> Result<Groups, AllocError>
     ensures groups { IfOk result (λ groups. groups ≡ three_parties) }
     ensures q2 { IfOk result IsQ2 }
 {
-    let groups = vec![in alloc; group(1), group(2), group(4)]?;
+    let groups = vec![in alloc;
+        group_of_mask(1, 3),
+        group_of_mask(2, 3),
+        group_of_mask(4, 3),
+    ]?;
     Ok(Groups::of(3, groups))
-}
-
-fn group(mask: u32) -> Group
-    requires { mask < 8 }
-    ensures { result ≡ record { parties = 3; mask = mask } }
-{
-    Group::of_mask(mask, 3).unwrap()
 }
 
 // The session: a gives a value of two wires, b another, and all three parties read the last wire.
@@ -56,7 +53,7 @@ fn sample_part(alloc: Global, count: u32) -> Result<SessionPart, AllocError>
     ensures fit { IfOk result (CarriesFit []) }
 {
     let owners = vec![in alloc; Owner::Party(0), Owner::Party(1)]?;
-    let readers = vec![in alloc; group(7)]?;
+    let readers = vec![in alloc; group_of_mask(7, 3)]?;
     let Ok(circuit) = sample_circuit(alloc, count) else {
         return Err(AllocError);
     };

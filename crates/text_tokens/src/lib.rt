@@ -12,7 +12,7 @@ mod runs;
 mod tokens;
 
 pub use cut::{Cut, next_token};
-pub use numbers::{is_decimal, is_digits, number};
+pub use numbers::{is_decimal, is_digits, number, with_digit};
 pub use run_token::RunToken;
 pub use runs::{number_at, word_at, word_bytes};
 pub use tokens::{Tokens, is_blank};

@@ -1,5 +1,6 @@
 //! The numbers that tokens write.
-ghost use Rattle.std.specs.Prelude.{◌≡◌};
+ghost use Rattle.std.specs.Prelude.{◌≡◌, ◌+◌, ◌-◌, ◌*◌, ◌^◌, ◌<◌, true, SomeIff};
+ghost use Rattle.std.specs.Char.{is_ascii_digit};
 ghost use Rattle.text_tokens.specs.Numbers.{is_digits, is_decimal, number_written};
 
 /// Whether a token is one or more decimal digits.
@@ -25,4 +26,13 @@ pub fn number(token: &str) -> Option<u64>
         return None;
     }
     token.parse().ok()
+}
+
+/// A number with one digit more, if it is below `2^64`.
+#[inline(always)]
+pub fn with_digit(number: u64, digit: u8) -> Option<u64>
+    requires { is_ascii_digit digit ≡ true }
+    ensures { SomeIff result (number * 10 + (digit - 48) < 2 ^ 64) (number * 10 + (digit - 48)) }
+{
+    number.checked_mul(10)?.checked_add(u64::from(digit - b'0'))
 }
