@@ -23,7 +23,7 @@ PAGES = [
                 ('job_session', 'Carries'), ('job_session', 'SlotNumbers'), ('job_plan', 'Plans'), ('job_plan', 'InputWords'), ('job_plan', 'Messages'),
                 ('job_plan', 'Numbers'), ('job_plan', 'Tallies'), ('share_world', 'Worlds'), ('share_world', 'Laws'), ('share_world', 'Locals'),
                 ('posting_laws', 'PostingOrders'), ('tape_map', 'TapeMaps'), ('tape_map', 'Laws'), ('view_counts', 'Counts'), ('view_counts', 'Simulators'),
-                ('view_counts', 'Laws'), ('plan_faults', 'limits'), ('job_session', 'Parts'), ('job_plan', 'Keeping'), ('job_plan', 'Limits'),
+                ('view_counts', 'Laws'), ('job_limits', 'limits'), ('job_session', 'Parts'), ('job_plan', 'Keeping'), ('job_plan', 'Limits'),
                 ('group_formula', 'Trees'), ('decoded_jobs', 'Jobs'), ('decoded_jobs', 'Promises'))),
     Page('STATEMENT_SCHEDULES', 'Whole worlds, and every schedule', 'A *whole* world is a plan within the limits, with the inputs and the tapes that it asks for; the worlds of good jobs are '
          'whole. The parts of the promise are laws of them by themselves: sums, same view, the simulator, posts in any order. Then come the instructions of a party, what its '
@@ -198,7 +198,7 @@ HEADINGS = {
     ('schedule_laws', 'Machines'): 'All desks, stepped by a schedule',
     ('schedule_laws', 'Orders'): 'Every schedule is right',
     ('schedule_laws', 'PostedOrders'): 'A schedule posts in some order',
-    ('plan_faults', 'limits'): 'Limits',
+    ('job_limits', 'limits'): 'Limits',
     ('walk_laws', 'Decoded'): 'Accepted files give a good job',
     ('walk_laws', 'NodeViews'): 'An audit of what a node writes',
     ('walk_laws', 'WrittenViews'): 'An audit of what a run writes',

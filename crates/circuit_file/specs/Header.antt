@@ -6,7 +6,7 @@ use Rattle.circuit_model.specs.declared.fault.CircuitFault.{CircuitFault}
 use Rattle.circuit_model.specs.declared.fault.CircuitFault.TheVariants.{BadNumber, ShortLine, LongLine, TooLarge, HeaderWidths}
 use Rattle.circuit_file.specs.Tokens.{token, tokens_after, is_number, number_in, all_numbers, numbers_in}
 use Rattle.circuit_file.specs.declared.header.Counts.{Counts}
-use Rattle.circuit_model.specs.declared.limits.TheConstants.{MOST_GATES, MOST_WIRES, MOST_VALUES}
+use Rattle.job_limits.specs.declared.limits.TheConstants.{MOST_GATES, MOST_WIRES, MOST_VALUES}
 
 -- line one: how many gates and how many wires
 unfoldable pub count_checks : Row → List (Option CircuitFault)

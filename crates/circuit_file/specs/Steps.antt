@@ -13,7 +13,7 @@ use Rattle.circuit_file.specs.CircuitFiles.{gate_in, gates_in, header_in}
 use Rattle.circuit_file.specs.Grammar.{Write}
 use Rattle.circuit_file.specs.declared.gate_line.ParsedGate.{ParsedGate}
 use Rattle.circuit_model.specs.declared.layout.CircuitLayout.{CircuitLayout}
-use Rattle.circuit_model.specs.declared.limits.TheConstants.{MOST_GATES}
+use Rattle.job_limits.specs.declared.limits.TheConstants.{MOST_GATES}
 
 -- the next tokens write these numbers
 pub record Takes (old : Place) (numbers : List ℕ) (new : Place) : Type 0 where

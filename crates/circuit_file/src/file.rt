@@ -10,8 +10,9 @@ use crate::gate_line::{add_gate, read_gate};
 use crate::header::{read_counts, read_widths};
 use crate::layout::is_bristol;
 use crate::scan::scan_gate;
-use circuit_model::{Builder, Circuit, CircuitFault, CircuitLayout, MOST_GATES};
+use circuit_model::{Builder, Circuit, CircuitFault, CircuitLayout};
 use gate_lines::{Line, Lines};
+use job_limits::MOST_GATES;
 use mpc_ring::Ring;
 use std::alloc::Global;
 

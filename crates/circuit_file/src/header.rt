@@ -4,8 +4,9 @@ ghost use Rattle.circuit_file.specs.Answers.{Shows};
 ghost use Rattle.circuit_file.specs.Header.{counts_in, widths_in};
 
 use crate::tokens::{after, all_numbers, is_number, number_in, numbers};
-use circuit_model::{CircuitFault, MOST_VALUES, are_large, check, exceeds};
+use circuit_model::{CircuitFault, are_large, check, exceeds};
 use gate_lines::Line;
+use job_limits::MOST_VALUES;
 use std::alloc::Global;
 
 /// How many gates and wires a circuit has.

@@ -8,7 +8,7 @@ use Rattle.circuit_model.specs.declared.fault.CircuitFault.{CircuitFault}
 use Rattle.circuit_model.specs.declared.fault.CircuitFault.TheVariants.{TooLarge, HeaderWidths, WrongArity, BadConstant, WireOutOfRange, ReadBeforeSet, SetTwice, OutputNotSet, Memory}
 use Rattle.list_laws.specs.Checks.{◌answers◌, first_fault, or_fault, then_fault}
 use Rattle.circuit_model.specs.Netlists.{Netlist, arity, is_constant, inputs_read, output_wires, sets}
-use Rattle.circuit_model.specs.declared.limits.TheConstants.{MOST_GATES, MOST_WIRES, MOST_VALUES}
+use Rattle.job_limits.specs.declared.limits.TheConstants.{MOST_GATES, MOST_WIRES, MOST_VALUES}
 
 -- a circuit that lacks gates: how many it will have, and the first refusal
 pub record Draft : Type 0 where

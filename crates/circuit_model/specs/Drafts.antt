@@ -2,7 +2,7 @@
 use Rattle.std.specs.Prelude.{◌≡◌, ℕ, ◌≤◌, Bool, false, List, length, slice_index_or}
 use Rattle.circuit_model.specs.Netlists.{IsWithin, AllGatesFit, sets}
 use Rattle.circuit_model.specs.DraftSteps.{Draft}
-use Rattle.circuit_model.specs.declared.limits.TheConstants.{MOST_GATES}
+use Rattle.job_limits.specs.declared.limits.TheConstants.{MOST_GATES}
 
 -- all but the output wires is as in a circuit, no more gates are there than announced, and the list tells which wires
 -- are set

@@ -5,7 +5,7 @@ use Rattle.circuit_model.specs.declared.gate.Gate.{Gate}
 use Rattle.circuit_model.specs.declared.gate.Operation.{Operation}
 use Rattle.circuit_model.specs.declared.gate.Operation.TheVariants.{Add, Sub, Neg, Mul, Xor, And, Inv, Eq, Eqw}
 use Rattle.circuit_model.specs.Circuits.{values}
-use Rattle.circuit_model.specs.declared.limits.TheConstants.{MOST_GATES, MOST_WIRES, MOST_VALUES}
+use Rattle.job_limits.specs.declared.limits.TheConstants.{MOST_GATES, MOST_WIRES, MOST_VALUES}
 
 -- gates over `wires` wires, for words of `bits` bits, and how many wires each input and output value has
 pub record Netlist : Type 0 where

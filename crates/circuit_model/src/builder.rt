@@ -7,7 +7,7 @@ use crate::checks::{check_gate, check_header};
 use crate::circuit::{Circuit, count_wires};
 use crate::fault::CircuitFault;
 use crate::gate::{Gate, Operation};
-use crate::limits::MOST_WIRES;
+use job_limits::MOST_WIRES;
 use mpc_ring::Ring;
 use std::alloc::{AllocError, Global};
 use std::marker::Model;

@@ -7,7 +7,7 @@ ghost use Rattle.circuit_model.specs.DraftSteps.{header_checks, gate_checks, gat
 
 use crate::fault::CircuitFault;
 use crate::gate::{Gate, Operation};
-use crate::limits::{MOST_GATES, MOST_VALUES, MOST_WIRES};
+use job_limits::{MOST_GATES, MOST_VALUES, MOST_WIRES};
 use mpc_ring::Ring;
 
 /// The fault, where a check failed.

@@ -2,7 +2,7 @@
 ghost use Rattle.std.specs.Prelude.{◌≡◌, ◌≤◌, sum};
 
 use crate::gate::Gate;
-use crate::limits::MOST_WIRES;
+use job_limits::MOST_WIRES;
 use mpc_ring::Ring;
 use std::marker::Model;
 

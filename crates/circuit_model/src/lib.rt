@@ -8,7 +8,6 @@ mod fault;
 mod gate;
 mod laws;
 mod layout;
-mod limits;
 
 pub use builder::Builder;
 pub use checks::{are_large, check, exceeds};
@@ -17,4 +16,3 @@ pub use fault::CircuitFault;
 pub use gate::{Gate, Operation};
 pub use laws::equations_have_one_solution;
 pub use layout::CircuitLayout;
-pub use limits::{MOST_GATES, MOST_VALUES, MOST_WIRES};

@@ -4,8 +4,7 @@ use Rattle.std.specs.Str.{bytes_eq}
 use Rattle.text_tokens.specs.Numbers.{number_written}
 use Rattle.command_words.specs.declared.command.Command.{Command}
 use Rattle.command_words.specs.declared.command.Command.TheVariants.{Run, Check, Pair, Node, Sample, Audit}
-use Rattle.command_words.specs.declared.limits.TheConstants.{MOST_SAMPLE}
-use Rattle.plan_faults.specs.declared.limits.TheConstants.{MOST_WORKERS}
+use Rattle.job_limits.specs.declared.limits.TheConstants.{MOST_GATES, MOST_WORKERS}
 
 -- a command, with the bytes of its words; a run may ask for the view of a group
 pub data CommandForm : Type 0 where
@@ -30,7 +29,7 @@ IsInRange (Run dir workers view) = (0 < workers) × (workers ≤ MOST_WORKERS)
 IsInRange (Check dir) = Unit
 IsInRange (Pair dir group) = Unit
 IsInRange (Node dir name) = Unit
-IsInRange (Sample count) = (0 < count) × (count ≤ MOST_SAMPLE)
+IsInRange (Sample count) = (0 < count) × (count ≤ MOST_GATES)
 IsInRange (Audit dir) = Unit
 
 -- a word that can be a folder, a group or a party: not empty, and not beginning with `-`
@@ -104,7 +103,7 @@ node_asked dir options = None
 
 -- a sample of as many gates as a word tells, after which no word stands
 abbrev pub sample_asked : List ℕ → List (List ℕ) → Option CommandForm
-sample_asked word [] = option_map (λ count. sample count) (count_up_to MOST_SAMPLE word)
+sample_asked word [] = option_map (λ count. sample count) (count_up_to MOST_GATES word)
 sample_asked word options = None
 
 -- ---- an audit

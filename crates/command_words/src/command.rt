@@ -3,8 +3,7 @@ ghost use Rattle.std.specs.Prelude.{◌≡◌, map, Some, None, IfOk, IfSome, On
 ghost use Rattle.command_words.specs.Commands.{is_plain, count_up_to, is_workers, is_view, run_by, run_seen, run_by_seen};
 ghost use Rattle.command_words.specs.Commands.{run_asked, check_asked, pair_asked, node_asked, sample_asked, audit_asked, asked, command_of, form_of, IsInRange};
 
-use crate::limits::MOST_SAMPLE;
-use plan_faults::MOST_WORKERS;
+use job_limits::{MOST_GATES, MOST_WORKERS};
 use text_tokens::number;
 
 /// What a command line asks for. The texts are those of its words.
@@ -232,7 +231,7 @@ fn sample_asked<'w>(word: &str, options: &[String]) -> Option<Command<'w>>
     if !options.is_empty() {
         return None;
     }
-    let count = count_up_to(word, MOST_SAMPLE)?;
+    let count = count_up_to(word, MOST_GATES as u32)?;
     Some(Command::Sample { count })
 }
 

@@ -2,7 +2,5 @@
 #![tactic(auto)]
 
 mod command;
-mod limits;
 
 pub use command::{Command, Refused, read_command};
-pub use limits::MOST_SAMPLE;

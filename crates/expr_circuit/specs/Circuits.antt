@@ -10,7 +10,7 @@ use Rattle.expr_circuit.specs.declared.wire.Step.{Step}
 use Rattle.expr_circuit.specs.Programs.{Term, Statement, bind}
 use Rattle.expr_circuit.specs.Programs.Term.{constant, variable, negative, sum, subtraction, product}
 use Rattle.expr_circuit.specs.Programs.Statement.{input, define, output}
-use Rattle.circuit_model.specs.declared.limits.TheConstants.{MOST_GATES, MOST_WIRES, MOST_VALUES}
+use Rattle.job_limits.specs.declared.limits.TheConstants.{MOST_GATES, MOST_WIRES, MOST_VALUES}
 
 -- what stands for a wire that an operation doesn't read
 abbrev pub no_wire : Wire

@@ -9,7 +9,7 @@ use Rattle.circuit_model.specs.Netlists.{IsCircuit}
 use Rattle.expr_circuit.specs.Circuits.{Draft, Built, number_of, netlist, is_large}
 use Rattle.expr_circuit.specs.Machine.{State}
 use Rattle.expr_circuit.specs.Walks.{Read, Walk}
-use Rattle.circuit_model.specs.declared.limits.TheConstants.{MOST_GATES, MOST_VALUES}
+use Rattle.job_limits.specs.declared.limits.TheConstants.{MOST_GATES, MOST_VALUES}
 
 -- the parser went on to the next state, or tells that there is none
 abbrev pub Advances : Option State → Bool → State → Type 0

@@ -17,7 +17,7 @@ use Rattle.job_file.specs.Names.{field_text, field_kind, top_fields, session_fie
 use Rattle.job_file.specs.Owners.{is_carry, owner_in}
 use Rattle.job_file.specs.Forms.{JobForm, TextList, job_form, is_version_two, adversary_field, products_in, short_frames_in, own_views_in, integer, text, texts, items, lists, tables}
 use Rattle.job_file.specs.declared.limits.TheConstants.{LAST_PORT, MOST_TOLERATED}
-use Rattle.plan_faults.specs.declared.limits.TheConstants.{MOST_SESSIONS}
+use Rattle.job_limits.specs.declared.limits.TheConstants.{MOST_SESSIONS}
 
 -- ---- lists of parties' names
 

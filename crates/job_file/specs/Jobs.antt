@@ -8,7 +8,7 @@ use Rattle.job_file.specs.declared.job.Adversary.{Adversary}
 use Rattle.job_file.specs.declared.job.Adversary.TheVariants.{Formula, Tolerated}
 use Rattle.job_file.specs.Owners.{IsOwner}
 use Rattle.job_file.specs.Forms.{JobForm, SessionForm, AdversaryForm, by_formula, by_list}
-use Rattle.plan_faults.specs.declared.limits.TheConstants.{MOST_SESSIONS}
+use Rattle.job_limits.specs.declared.limits.TheConstants.{MOST_SESSIONS}
 
 abbrev pub session_view : JobSession → SessionForm
 session_view session = record {

@@ -7,7 +7,7 @@ use Rattle.text_tokens.specs.Numbers.{is_decimal}
 use Rattle.party_set.specs.Names.{party_named}
 use Rattle.job_file.specs.declared.owner.JobOwner.{JobOwner}
 use Rattle.job_file.specs.declared.owner.JobOwner.TheVariants.{Party, Carried}
-use Rattle.circuit_model.specs.declared.limits.TheConstants.{MOST_VALUES}
+use Rattle.job_limits.specs.declared.limits.TheConstants.{MOST_VALUES}
 
 -- an owner of this text is to be carried: it begins with `@`, and the file is of version 2
 abbrev pub is_carry : Bool → List ℕ → Bool

@@ -2,7 +2,7 @@
 ghost use Rattle.std.specs.Prelude.{◌≡◌, true, false, MatchOption, IfSome, drop, length};
 ghost use Rattle.job_file.specs.Owners.{is_carry, number_below, carry_in, owner_in, IsOwner};
 
-use circuit_model::MOST_VALUES;
+use job_limits::MOST_VALUES;
 use party_set::Names;
 use text_tokens::{is_decimal, number};
 

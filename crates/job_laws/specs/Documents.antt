@@ -22,7 +22,7 @@ use Rattle.job_file.specs.Products.{are_prepared}
 use Rattle.job_file.specs.Forms.{JobForm, SessionForm, AdversaryForm, by_formula, by_list}
 use Rattle.job_file.specs.Faults.{job_in}
 use Rattle.job_file.specs.declared.limits.TheConstants.{LAST_PORT, MOST_TOLERATED}
-use Rattle.plan_faults.specs.declared.limits.TheConstants.{MOST_SESSIONS}
+use Rattle.job_limits.specs.declared.limits.TheConstants.{MOST_SESSIONS}
 
 -- ---- values
 

@@ -5,7 +5,7 @@ use Rattle.job_plan.specs.Messages.{messages}
 use Rattle.job_plan.specs.Tallies.{tape_length}
 use Rattle.plan_faults.specs.declared.plan_fault.PlanFault.{PlanFault}
 use Rattle.plan_faults.specs.declared.plan_fault.PlanFault.TheVariants.{TooManyMessages, TooManyWords, Memory}
-use Rattle.plan_faults.specs.declared.limits.TheConstants.{MOST_MESSAGES, MOST_WORDS}
+use Rattle.job_limits.specs.declared.limits.TheConstants.{MOST_MESSAGES, MOST_WORDS}
 
 -- at most 1,048,576 messages, and as many tape words of each party, in all sessions
 pub record IsPlanWithin (plan : Plan) : Type 0 where

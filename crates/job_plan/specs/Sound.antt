@@ -8,7 +8,7 @@ use Rattle.job_plan.specs.declared.patterns.Patterns.{Patterns}
 use Rattle.job_plan.specs.Messages.{messages}
 use Rattle.job_plan.specs.Tables.{AreTransfers}
 use Rattle.job_plan.specs.Firsts.{starts_of, word_starts_of}
-use Rattle.plan_faults.specs.declared.limits.TheConstants.{MOST_MESSAGES, MOST_WORDS, MOST_SESSIONS}
+use Rattle.job_limits.specs.declared.limits.TheConstants.{MOST_MESSAGES, MOST_WORDS, MOST_SESSIONS}
 use Rattle.party_set.specs.declared.limits.TheConstants.{MOST_PARTIES, MOST_GROUPS}
 
 -- a sharing in which products can be computed, sessions whose carried values fit those before them, and all is within

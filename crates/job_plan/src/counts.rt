@@ -9,9 +9,8 @@ ghost use Rattle.job_session.specs.Counts.{prepared_products};
 ghost use Rattle.job_plan.specs.Tallies.{keeping_messages, openings, party_messages, masks_messages, tape_length};
 
 use crate::outline::Outline;
-use circuit_model::{MOST_GATES, MOST_WIRES};
+use job_limits::{MOST_GATES, MOST_SESSIONS, MOST_WIRES};
 use party_set::{MOST_GROUPS, MOST_PARTIES};
-use plan_faults::MOST_SESSIONS;
 
 /// Whether party `p` sends summand `i` of a deal to `q`: another party that holds it.
 pub(crate) fn sends(outline: &Outline, p: u32, q: u32, i: u32) -> bool

@@ -8,8 +8,8 @@ ghost use Rattle.job_session.specs.Carries.{kept_for, kept_from};
 ghost use Rattle.job_session.specs.SoundSessions.{IsSoundSession, IsWired};
 ghost use Rattle.job_plan.specs.Keeping.{AllFit, first_outputs, keeping};
 
+use job_limits::MOST_SESSIONS;
 use job_session::{KeptWire, SessionPart, Source};
-use plan_faults::MOST_SESSIONS;
 use std::alloc::{AllocError, Global};
 
 /// The same sessions, each of which keeps what those behind it carry from it, in the place of what it kept.

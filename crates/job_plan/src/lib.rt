@@ -24,4 +24,4 @@ pub use key::Key;
 pub use laws::{deals_have_slots, numbers_are_inverse, places_are_apart, slots_follow_patterns};
 pub use pattern::{Pattern, Transfer};
 pub use plan::Plan;
-pub use plan_faults::{MOST_MESSAGES, MOST_SESSIONS, MOST_WORDS, PartFault, PlanFault};
+pub use plan_faults::{PartFault, PlanFault};

@@ -9,7 +9,7 @@ use crate::counts::session_words;
 use crate::outline::Outline;
 use crate::patterns::Patterns;
 use crate::starts::Starts;
-use plan_faults::MOST_MESSAGES;
+use job_limits::MOST_MESSAGES;
 use std::alloc::{AllocError, Global};
 
 // Where the messages of each slot of session s begin, after the `before` messages of earlier sessions.

@@ -4,9 +4,9 @@ ghost use Rattle.job_plan.specs.Patterns.{input_pattern};
 
 use crate::keeping::keep_carried;
 use crate::pattern::Pattern;
+use job_limits::MOST_SESSIONS;
 use job_session::{SessionPart, SlotKind, Source};
 use mpc_ring::Ring;
-use plan_faults::MOST_SESSIONS;
 use product_duty::Duty;
 use share_layout::Layout;
 use std::alloc::{AllocError, Global};

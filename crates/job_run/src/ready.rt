@@ -7,9 +7,9 @@ ghost use Rattle.job_run.specs.Parties.{AllFit, world_of};
 use crate::given::{Given, given_by};
 use crate::pieces::in_order;
 use desk_workers::{Ready, prepare};
+use job_limits::MOST_WORKERS;
 use job_plan::{Inputs, Plan};
 use party_file::PartyData;
-use plan_faults::MOST_WORKERS;
 use std::alloc::{AllocError, Global};
 
 /// All desks of a job, ready to be run by `workers`, 1 to 16. The parties stand in the order of the plan.

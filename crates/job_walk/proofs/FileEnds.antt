@@ -13,7 +13,7 @@ use Rattle.job_walk.specs.FilesAsked.{AsksFor, AsksPart, IsLast}
 use Rattle.job_walk.specs.Reads.{KeepsFiles}
 use Rattle.job_walk.proofs.Asks.{part_all}
 use Rattle.refusal_text.specs.Lines.{too_long_line}
-use Rattle.refusal_text.specs.declared.limits.TheConstants.{FILE_LIMIT}
+use Rattle.job_limits.specs.declared.limits.TheConstants.{FILE_LIMIT}
 
 pub read_keeps : (name : List ℕ) (limit : ℕ) (before after : FilesReading) (result : Result (Vec ℕ Global) ReadRefusal) → Reads name limit before after result → KeepsFiles before after
 read_keeps name limit before after result r = record {

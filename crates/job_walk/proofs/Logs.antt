@@ -16,7 +16,7 @@ use Rattle.job_walk.specs.JobOf.{bytes_of, file_at}
 use Rattle.job_walk.specs.FileLogs.{bytes_at, all_bytes_at, Logs}
 use Rattle.job_walk.specs.NodeOf.{NodeForm, circuit_files, job_digest}
 use Rattle.refusal_text.specs.Lines.{too_long_line}
-use Rattle.refusal_text.specs.declared.limits.TheConstants.{FILE_LIMIT}
+use Rattle.job_limits.specs.declared.limits.TheConstants.{FILE_LIMIT}
 
 -- ---- one file
 

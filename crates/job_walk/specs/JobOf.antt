@@ -35,7 +35,7 @@ use Rattle.party_file.specs.Table.{PartyForm, party_in}
 use Rattle.refusal_text.specs.Lines.{too_long_line, job_line, group_line, formula_line, groups_line, covering_line, circuit_line, expressions_line, session_line, plan_line, party_line}
 use Rattle.job_walk.specs.Names as file_names
 use Rattle.job_walk.specs.Verdict.{Verdict, accepted, missing, refused, Ends, Then, verdict_of, unless}
-use Rattle.refusal_text.specs.declared.limits.TheConstants.{FILE_LIMIT}
+use Rattle.job_limits.specs.declared.limits.TheConstants.{FILE_LIMIT}
 use Rattle.party_set.specs.declared.limits.TheConstants.{MOST_GROUPS}
 
 -- what files hold: for each path its bytes, or none where no file is there

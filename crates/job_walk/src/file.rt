@@ -7,8 +7,9 @@ ghost use Rattle.job_walk.specs.Reads.{ReadsAs};
 
 use crate::Stop;
 use crate::stop::refusal;
+use job_limits::FILE_LIMIT;
 use outer_io::{Files, ReadRefusal};
-use refusal_text::{FILE_LIMIT, too_long_line};
+use refusal_text::too_long_line;
 use std::alloc::{AllocError, Global};
 
 /// The path of a file of the folder.

@@ -21,11 +21,12 @@ use crate::stop::refusal;
 use circuit_model::{Circuit, CircuitFault, CircuitLayout};
 use expr_circuit::ExprFault;
 use job_file::{Job, JobOwner, JobSession, Products, SessionLayout};
+use job_limits::MOST_SESSIONS;
 use job_plan::{Owner, SessionPart};
 use mpc_ring::Ring;
 use outer_io::Files;
 use party_set::Group;
-use plan_faults::{MOST_SESSIONS, PartFault};
+use plan_faults::PartFault;
 use refusal_text::{circuit_line, expressions_line, session_line};
 use std::alloc::{AllocError, Global};
 

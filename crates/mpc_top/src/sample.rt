@@ -8,8 +8,8 @@ ghost use Rattle.sample_maker.specs.Samples.{sample_names, sample_plan, sample_i
 ghost use Rattle.mpc_top.specs.Outcomes.{RunsAlone};
 
 use crate::means::Means;
-use circuit_model::MOST_GATES;
 use desk_workers::prepare;
+use job_limits::MOST_GATES;
 use job_plan::{Inputs, Plan};
 use job_walk::Stop;
 use outer_io::{Files, Pace, Sink};

@@ -10,7 +10,7 @@ ghost use Rattle.view_text.specs.OutLines.{wires_before};
 ghost use Rattle.node_text.specs.NodeText.{node_text, outputs_text, session_lines, value_line, output_words};
 
 use crate::view::gather_view;
-use circuit_model::MOST_WIRES;
+use job_limits::MOST_WIRES;
 use job_plan::Plan;
 use node_run::NodeDone;
 use outer_io::{Blocks, Failed, Gather, Sink};

@@ -26,7 +26,7 @@ use Rattle.tape_map.specs.ToldFaults.{told_map_fault}
 use Rattle.view_check.specs.declared.fault.CheckFault.{CheckFault}
 use Rattle.view_check.specs.ToldFaults.{told_check_fault}
 use Rattle.text_parts.specs.Parts.{group_text}
-use Rattle.refusal_text.specs.declared.limits.TheConstants.{FILE_LIMIT}
+use Rattle.job_limits.specs.declared.limits.TheConstants.{FILE_LIMIT}
 
 -- a name from a file: a byte that isn't one of `!` to `~` is told as `?`
 abbrev pub masked : List ℕ → List ℕ

@@ -2,12 +2,12 @@
 ghost use Rattle.std.specs.Prelude.{◌≡◌, IfOk};
 ghost use Rattle.refusal_text.specs.Lines.{too_long_line, circuit_line, expressions_line, job_line};
 
-use crate::limits::FILE_LIMIT;
 use crate::line::{file_key, number_key, refusal_line};
 use circuit_model::CircuitFault;
 use expr_circuit::ExprFault;
 use fault_table::Entry;
 use job_file::JobFault;
+use job_limits::FILE_LIMIT;
 use std::alloc::{AllocError, Global};
 
 /// The line of a file that is longer than the limit.

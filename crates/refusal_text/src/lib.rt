@@ -2,7 +2,6 @@
 #![tactic(auto)]
 
 mod files;
-mod limits;
 mod line;
 mod masked;
 mod parties;
@@ -11,7 +10,6 @@ mod structure;
 mod views;
 
 pub use files::{circuit_line, expressions_line, job_line, too_long_line};
-pub use limits::FILE_LIMIT;
 pub use parties::{other_line, party_line};
 pub use plan::{plan_line, session_line};
 pub use structure::{covering_line, formula_line, group_line, groups_line, name_line};

@@ -5,7 +5,8 @@ ghost use Rattle.circuit_model.specs.Netlists.{arity};
 ghost use Rattle.sample_maker.specs.Samples.{first_operand, second_operand, sample_operation};
 ghost use Rattle.sample_maker.specs.Drafts.{first_gates, sample_draft};
 
-use circuit_model::{Builder, Circuit, CircuitFault, MOST_GATES, Operation};
+use circuit_model::{Builder, Circuit, CircuitFault, Operation};
+use job_limits::MOST_GATES;
 use mpc_ring::Ring;
 use std::alloc::Global;
 

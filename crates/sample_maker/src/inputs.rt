@@ -3,7 +3,7 @@ ghost use Rattle.std.specs.Prelude.{◌≡◌, ◌+◌, ◌<◌, ◌≤◌, [], 
 ghost use Rattle.job_plan.specs.InputWords.{session_words};
 ghost use Rattle.sample_maker.specs.Samples.{sample_inputs, sample_plan, sample_word};
 
-use circuit_model::MOST_GATES;
+use job_limits::MOST_GATES;
 use job_plan::{Inputs, Plan};
 use std::alloc::{AllocError, Global};
 

@@ -7,7 +7,7 @@ ghost use Rattle.job_session.specs.SoundSessions.{IsSoundSession};
 ghost use Rattle.sample_maker.specs.Samples.{sample_plan, sample_session};
 
 use crate::circuit::{sample_circuit, sample_ring};
-use circuit_model::MOST_GATES;
+use job_limits::MOST_GATES;
 use job_plan::{Owner, Plan, SessionPart};
 use party_set::{Groups, group_of_mask};
 use plan_faults::{PartFault, PlanFault};

@@ -7,7 +7,7 @@ ghost use Rattle.sample_maker.specs.Samples.{sample_inputs, sample_pieces, sampl
 use crate::inputs::sample_inputs;
 use crate::plan::sample_plan;
 use crate::tapes::sample_tapes;
-use circuit_model::MOST_GATES;
+use job_limits::MOST_GATES;
 use job_plan::{Inputs, Plan};
 use std::alloc::{AllocError, Global};
 use tape_words::Tape;

@@ -22,7 +22,7 @@ use Rattle.mpc_top.specs.Due.{DueOf}
 use Rattle.walk_laws.specs.WrittenViews.{written_view, WrittenViewsAreAudited}
 use Rattle.mpc_top.proofs.WholeWorlds.{accepted_is, was_ok}
 use Rattle.job_laws.proofs.ReadJobs.{mask_below}
-use Rattle.refusal_text.specs.declared.limits.TheConstants.{FILE_LIMIT}
+use Rattle.job_limits.specs.declared.limits.TheConstants.{FILE_LIMIT}
 
 -- ---- a group that a text names
 

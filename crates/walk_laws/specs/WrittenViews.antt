@@ -10,7 +10,7 @@ use Rattle.job_walk.specs.Verdict.{accepted}
 use Rattle.job_walk.specs.JobOf.{Contents}
 use Rattle.mpc_top.specs.WholeJobs.{WholeJob, JobAt}
 use Rattle.mpc_top.specs.Due.{text, DueOf}
-use Rattle.refusal_text.specs.declared.limits.TheConstants.{FILE_LIMIT}
+use Rattle.job_limits.specs.declared.limits.TheConstants.{FILE_LIMIT}
 
 -- what a run of a job writes of a view, behind the outputs
 abbrev pub written_view : WholeJob → Members → List ℕ
