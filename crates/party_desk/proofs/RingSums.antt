@@ -4,7 +4,7 @@ use Rattle.list_laws.specs.Lists.{total}
 use Rattle.mpc_ring.proofs.Remainders.{Same, mods_of_same, same_add, same_mod, same_refl, same_trans}
 
 -- a word of the ring is what it was made of, but for a multiple of the modulus
-same_word : (q r n : ℕ) → r ≡ n % q → Same q r n
+pub same_word : (q r n : ℕ) → r ≡ n % q → Same q r n
 same_word q r n is = same_trans (same_refl q r (n % q) is) (same_mod q n)
 
 -- three words, added one after another

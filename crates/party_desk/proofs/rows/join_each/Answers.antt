@@ -1,4 +1,4 @@
-use Rattle.std.proofs.Common.{ℕ, ◌+◌, ◌*◌, ◌<◌, ◌^◌, refl, ◌∙◌, arith}
+use Rattle.std.proofs.Common.{ℕ, ◌+◌, ◌*◌, ◌<◌, ◌^◌, ◌∙◌, arith}
 use Rattle.std.proofs.lemmas.List.Elements.{All-set}
 use Rattle.secret_sharing.specs.Prepared.{joined_summand}
 use Rattle.party_desk.specs.Rows.{row}
@@ -17,9 +17,9 @@ loop-i-preserved c =
     let e : ℕ = c.args.excess.1 in
     let new : ℕ → ℕ = joined_summand q d e (f g.first) (f g.second) (f g.output) in
     let h = c.loop-i.invariant.rows in record {
-      small = All-set (λ y. y < q) c.loop-i.table (c.args.number * m + i) c.joined_summand.result c.joined_summand.ensures.below c.loop-i.invariant.small;
+      small = All-set (λ y. y < q) c.loop-i.table (c.args.number * m + i) c.joined.result c.joined.ensures.below c.loop-i.invariant.small;
       rows = fill_step m c.loop-i.table f c.args.number new i _ h (omega arith) (omega arith)
-          (c.joined_summand.ensures.is i refl
+          (c.joined.ensures.is
           ∙ same_summand q d e i _ _ _ (f g.first i) (f g.second i) (f g.output i)
           (h g.first i (omega arith) ∙ fill_unread f c.args.number new i g.first) (h g.second i (omega arith) ∙ fill_unread f c.args.number new i g.second) (h g.output i (omega arith) ∙ fill_unread f c.args.number new i g.output));
     }

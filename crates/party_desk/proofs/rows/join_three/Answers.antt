@@ -1,4 +1,4 @@
-use Rattle.std.proofs.Common.{◌≡◌, ℕ, ◌+◌, ◌*◌, ◌^◌, ◌<◌, refl, sym, ap, ◌∙◌, arith}
+use Rattle.std.proofs.Common.{◌≡◌, ℕ, ◌+◌, ◌*◌, ◌^◌, ◌<◌, sym, ap, ◌∙◌, arith}
 use Rattle.std.specs.Prelude.{slice_index}
 use Rattle.std.proofs.lemmas.List.Elements.{All-set}
 use Rattle.secret_sharing.specs.Prepared.{joined_summand}
@@ -18,13 +18,13 @@ returns-clause-rows c =
     let q : ℕ = 2 ^ c.args.ring in
     let d : ℕ = c.args.excess.0 in
     let e : ℕ = c.args.excess.1 in
-    let first = c.joined_summand-first.ensures.is 0 refl
+    let first = c.joined-first.ensures.is
     ∙ same_summand q d e 0 _ _ _ (f g.first 0) (f g.second 0) (f g.output 0)
     (ap (slice_index table) (sym (at_start (g.first * 3)))) (ap (slice_index table) (sym (at_start (g.second * 3)))) (ap (slice_index table) (sym (at_start (g.output * 3)))) in
-    three_filled table c.args.number (joined_summand q d e (f g.first) (f g.second) (f g.output)) c.joined_summand-first.result c.joined_summand-second.result c.joined_summand-third.result c.requires.row first (c.joined_summand-second.ensures.is 1 refl) (c.joined_summand-third.ensures.is 2 refl)
+    three_filled table c.args.number (joined_summand q d e (f g.first) (f g.second) (f g.output)) c.joined-first.result c.joined-second.result c.joined-third.result c.requires.row first c.joined-second.ensures.is c.joined-third.ensures.is
 
 pub returns-clause-small : goal.returns-clause-small
 returns-clause-small c =
     let q : ℕ → Type 0 = λ x. x < 2 ^ c.args.ring in
     let at' = c.args.number * 3 in
-    All-set q _ (at' + 2) _ c.joined_summand-third.ensures.below (All-set q _ (at' + 1) _ c.joined_summand-second.ensures.below (All-set q c.args.table.now at' _ c.joined_summand-first.ensures.below c.requires.small))
+    All-set q _ (at' + 2) _ c.joined-third.ensures.below (All-set q _ (at' + 1) _ c.joined-second.ensures.below (All-set q c.args.table.now at' _ c.joined-first.ensures.below c.requires.small))
