@@ -207,8 +207,8 @@ def table_of_sha256(program, folder, times):
 
 
 def table_of_orders(program, folder, times):
-    head('Products of AES-128 in layers', 'Messages', 'Rounds before the inputs', 'Rounds from these on', 'Rounds seen', 'Bytes before the inputs',
-         'Bytes from these on', 'Milliseconds', 'Seconds, nodes 20 ms apart')
+    head('Products of AES-128 in layers', 'Messages', 'Rounds before the inputs', 'Rounds from these on', 'Rounds seen', 'Bytes in the rounds before',
+         'Bytes in the others', 'Milliseconds', 'Seconds, nodes 20 ms apart')
     _, layers = make_aes(program, folder)
     for order in ORDERS:
         row_of_order(program, layers, os.path.join(folder, order), order, times)
