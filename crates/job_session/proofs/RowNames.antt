@@ -4,8 +4,9 @@ use Rattle.std.proofs.lemmas.Bool.{cond-true, cond_both, cond-false, and_parts}
 use Rattle.circuit_model.specs.Circuits.{is_product}
 use Rattle.job_session.specs.declared.side.Side.{Side}
 use Rattle.job_session.specs.declared.side.Side.TheVariants.{First, Second}
-use Rattle.job_session.specs.Sessions.{Session, gate, is_prepared, mask_wire, product_wire, row_names, session_slots}
-use Rattle.job_session.specs.SoundSessions.{IsWired}
+use Rattle.job_session.specs.Sessions.{Session, Slot, content, gate, is_prepared, kept_wire, mask_wire, no_kept, operand, output_wire, owners, product_wire, readers, row_names, session_slots}
+use Rattle.job_session.specs.Sessions.Slot.{Input, At_gate, Output, Mask, Mask_product, Masked, Kept}
+use Rattle.job_session.specs.SoundSessions.{AreNamed, Inside, IsWired}
 use Rattle.job_session.proofs.SessionSlots.{few_before, slot_count}
 
 -- the wires of the circuit come before those of its prepared products
@@ -24,6 +25,27 @@ mask_within s t Second l e = (let all = names_of s t e in omega (arith, all, l))
 
 pub product_named : (s : Session) (t : ℕ) → t < length s.gates → is_prepared s t ≡ true → product_wire s t < row_names s
 product_named s t l e = (let all = names_of s t e in omega (arith, all, l))
+
+-- the rows of which a slot's messages are made have names
+module _ (s : Session) (wired : IsWired s) where
+  wire_named : (v : ℕ) → v < s.wires → v < row_names s
+  wire_named v l = omega (arith, l, wires_named s)
+
+  output_named : (o : ℕ) → o < length (readers s) → output_wire s o < row_names s
+  output_named o l = wire_named (output_wire s o) (omega (arith, l, wired.output_wires))
+
+  operand_named : (t : ℕ) (side : Side) → t < length s.gates → operand (gate s t) side < row_names s
+  operand_named t First l = wire_named _ (wired.first t l)
+  operand_named t Second l = wire_named _ (wired.second t l)
+
+  pub content_named : (z : Slot) → Inside s z → AreNamed (row_names s) (content s z)
+  content_named (Input v) l = wire_named v (omega (arith, l, wired.input_wires))
+  content_named (At_gate t) l = (operand_named t First l, operand_named t Second l, wire_named _ (wired.output t l))
+  content_named (Output o) l = output_named o l
+  content_named (Mask t side) (l, e) = mask_within s t side l e
+  content_named (Mask_product t) (l, e) = (mask_within s t First l e, mask_within s t Second l e, product_named s t l e)
+  content_named (Masked t side) (l, e) = (operand_named t side l, mask_within s t side l e)
+  content_named (Kept j) l = output_named _ (wired.kept.outputs j no_kept l)
 
 -- without prepared products those of the circuit alone
 pub direct_names : (s : Session) → s.prepared ≡ false → row_names s ≡ s.wires

@@ -1,16 +1,18 @@
-//! The wires of a slot of each kind.
+//! The wires of a slot of each kind, and the rows of which its messages are made.
 
 use crate::side::{Side, operand};
+use crate::slot_content::SlotContent;
 use crate::slot_kind::SlotKind;
 use crate::touched::{Reads, Touched, completed, read_wires, touched_of};
 use crate::wiring::Wiring;
+use circuit_model::{Gate, Operation};
 
 impl Wiring {
     ghost use Rattle.std.specs.Prelude.{◌≡◌, ℕ, ◌<◌, nat_eq, length, ◌||◌};
     ghost use Rattle.std.specs.List.{list_any};
-    ghost use Rattle.job_session.specs.Sessions.{gate, is_prepared, mask_wire, operand, product_wire, row_names, session_slots};
-    ghost use Rattle.job_session.specs.Sessions.Slot.{At_gate};
-    ghost use Rattle.job_session.specs.SoundSessions.{slot_of_kind, Inside};
+    ghost use Rattle.job_session.specs.Sessions.{content, gate, is_prepared, mask_wire, operand, product_in, product_wire, row_names, session_slots};
+    ghost use Rattle.job_session.specs.Sessions.Slot.{At_gate, Mask_product};
+    ghost use Rattle.job_session.specs.SoundSessions.{slot_of_kind, AreNamed, Inside};
     ghost use Rattle.job_session.specs.KeptWires.{sets_in};
     ghost use Rattle.job_session.specs.Batches.{completes, is_join, reads_early, sets_early};
     ghost use Rattle.job_session.specs.Wirings.{AreReads, IsTouched, IsWiring, is_named, session_in};
@@ -67,6 +69,45 @@ impl Wiring {
         ensures { result ≡ operand (gate (session_in self.now) t) side }
     {
         operand(self.gates[t as usize], side)
+    }
+
+    /// Of which rows the messages of a slot are made.
+    #[inline(always)]
+    pub(crate) fn content(&self, kind: SlotKind) -> SlotContent
+        requires wiring { IsWiring self.now }
+        requires inside { Inside (session_in self.now) (slot_of_kind kind) }
+        ensures is { result ≡ content (session_in self.now) (slot_of_kind kind) }
+        ensures named { AreNamed (row_names (session_in self.now)) result }
+    {
+        match kind {
+            SlotKind::Input(v) => SlotContent::Row(v),
+            SlotKind::Gate(t) => SlotContent::Product(self.gates[t as usize]),
+            SlotKind::Output(o) => SlotContent::Row(self.output_wire(o)),
+            SlotKind::Mask(t, side) => SlotContent::Row(self.mask_wire(t, side)),
+            SlotKind::MaskProduct(t) => SlotContent::Product(self.product_of_masks(t)),
+            SlotKind::Masked(t, side) => SlotContent::Excess {
+                wire: self.operand(t, side),
+                mask: self.mask_wire(t, side),
+                side,
+            },
+            SlotKind::Kept(j) => SlotContent::Row(self.kept_wire(j)),
+        }
+    }
+
+    /// The product of both masks of gate `t`, as a gate over their rows.
+    #[inline(always)]
+    pub(crate) fn product_of_masks(&self, t: u32) -> Gate
+        requires wiring { IsWiring self.now }
+        requires within { t < length self.now.gates.items }
+        ensures { result ≡ product_in (session_in self.now) (Mask_product t) }
+    {
+        Gate {
+            operation: Operation::Mul,
+            first: self.mask_wire(t, Side::First),
+            second: self.mask_wire(t, Side::Second),
+            output: self.product_wire(t),
+            constant: 0,
+        }
     }
 
     /// The wires that a slot reads before it takes anything.
