@@ -7,9 +7,9 @@ use Rattle.std.proofs.lemmas.List.Elements.{All-get_or}
 use Rattle.std.proofs.lemmas.Nat.{pow_pos}
 use Rattle.std.proofs.Math.Nat.{mod-lt}
 use mathlib.Core.Logic.{inl, inr}
-use Rattle.job_session.specs.Sessions.{Slot}
+use Rattle.session_slots.specs.Sessions.{Slot}
 use Rattle.job_plan.specs.Plans.{Plan}
-use Rattle.job_session.specs.Sessions.Slot.{Input, At_gate, Output, Mask, Mask_product, Masked, Kept}
+use Rattle.session_slots.specs.Sessions.Slot.{Input, At_gate, Output, Mask, Mask_product, Masked, Kept}
 use Rattle.job_plan.specs.Messages.{messages}
 use Rattle.job_plan.proofs.PlanSchemes.{plan_is}
 use Rattle.party_program.specs.declared.program.Instruction.{Instruction}

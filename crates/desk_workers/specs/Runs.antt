@@ -1,7 +1,7 @@
 -- A run of workers: before it, and after it.
 use Rattle.std.specs.Prelude.{true, ◌≡◌, ℕ, ◌+◌, ◌*◌, ◌<◌, ◌≤◌, [], length, slice_get, Option, Some, IsSomeAnd, vec_capacity}
 use Rattle.list_laws.specs.Lists.{total}
-use Rattle.job_session.specs.Sessions.{readers, output_wire}
+use Rattle.session_slots.specs.Sessions.{readers, output_wire}
 use Rattle.job_plan.specs.Plans.{Plan, session, reads}
 use Rattle.job_plan.specs.Messages.{messages}
 use Rattle.job_plan.specs.Numbers.{message}

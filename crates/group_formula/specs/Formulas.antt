@@ -2,7 +2,7 @@
 use Rattle.std.specs.Prelude.{◌≡◌, ℕ, ◌+◌, ◌-◌, ◌*◌, ◌⊎◌, ◌&&◌, nat_le, List, [], ◌∷◌, length, drop, if◌then◌else◌, Option, Some, None, is_some, unwrap_or}
 use Rattle.std.specs.List.{take_while}
 use Rattle.std.specs.Char.{is_ascii_digit}
-use Rattle.party_set.specs.Names.{party_named}
+use Rattle.party_names.specs.Names.{party_named}
 use Rattle.text_tokens.specs.RunTokens.{is_word_byte}
 use Rattle.group_formula.specs.declared.fault.FormulaFault.{FormulaFault}
 use Rattle.group_formula.specs.declared.fault.FormulaFault.TheVariants.{UnknownName, BadCount, Memory}

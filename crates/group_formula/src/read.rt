@@ -7,7 +7,7 @@ use crate::fault::FormulaFault;
 use crate::formula::Formula;
 use crate::parse::parse;
 use crate::resolve::resolve;
-use party_set::Names;
+use party_names::Names;
 use std::alloc::Global;
 
 /// The formula that a text stands for over these names, or the one fault of the text. At most 32 parentheses are open

@@ -7,7 +7,7 @@ ghost use Rattle.group_formula.specs.Parsed.{IsParsed};
 use crate::fault::FormulaFault;
 use crate::formula::Formula;
 use crate::node::Node;
-use party_set::Names;
+use party_names::Names;
 use text_tokens::{number_at, with_digit, word_at};
 
 /// The number that stands at this place, if it is at least 1 and at most `parts`.

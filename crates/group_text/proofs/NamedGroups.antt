@@ -15,9 +15,9 @@ use Rattle.std.proofs.Math.Pow.{pow-lt}
 use Rattle.list_laws.specs.Checks.{or_fault}
 use Rattle.list_laws.proofs.Tests.{or_false}
 use Rattle.party_set.specs.Parties.{Members, has_party}
-use Rattle.party_set.specs.Names.{party_named, AreNames}
+use Rattle.party_names.specs.Names.{party_named, AreNames}
 use Rattle.party_set.proofs.Masks.{power_is, has_with}
-use Rattle.party_set.proofs.NameFaults.{number_at}
+use Rattle.party_names.proofs.NameFaults.{number_at}
 use Rattle.job_file.specs.Faults.{bad_name, is_no_party}
 use Rattle.job_file.specs.Forms.{party_of, mask_of}
 use Rattle.group_text.specs.declared.fault.GroupFault.{GroupFault}

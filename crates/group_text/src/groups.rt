@@ -5,7 +5,8 @@ ghost use Rattle.group_text.specs.Masks.{mask_with};
 
 use crate::fault::GroupFault;
 use crate::parts::Parts;
-use party_set::{Group, Names, group_of_mask, has_party, with_party};
+use party_names::Names;
+use party_set::{Group, group_of_mask, has_party, with_party};
 
 /// The group that a text names: the names of its members joined by `+`, in any order, or `0` for the empty group. It
 /// takes no memory.

@@ -9,7 +9,7 @@ use Rattle.std.proofs.lemmas.Bool.{ltb-true, ltb-false, le-ltb, and_parts}
 use Rattle.std.proofs.lemmas.Bool.Decides.{eqb_tells}
 use Rattle.std.proofs.lemmas.List.Quantifiers.{position-Some}
 use Rattle.text_tokens.specs.Numbers.{is_digits, is_decimal, number_written}
-use Rattle.party_set.specs.Names.{party_named}
+use Rattle.party_names.specs.Names.{party_named}
 use Rattle.job_file.specs.declared.owner.JobOwner.{JobOwner}
 use Rattle.job_file.specs.declared.owner.JobOwner.TheVariants.{Party, Carried}
 use Rattle.job_file.specs.Owners.{is_carry, is_point, number_below, carry_in, owner_in, IsOwner}

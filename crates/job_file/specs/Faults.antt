@@ -8,7 +8,7 @@ use Rattle.toml.specs.Data.{Members}
 use Rattle.toml_fields.specs.Documents.{document_of}
 use Rattle.toml_fields.specs.Fields.{has_field, is_misfit}
 use Rattle.toml_fields.specs.Keys.{least_unknown}
-use Rattle.party_set.specs.Names.{party_named, names_fault}
+use Rattle.party_names.specs.Names.{party_named, names_fault}
 use Rattle.job_file.specs.declared.field.Field.{Field}
 use Rattle.job_file.specs.declared.field.Field.TheVariants.{Version, RingBits, Parties, Tolerated, Hosts, Port, Frames, Views, Session, Circuit, Layout, Products, Owners, Readers}
 use Rattle.job_file.specs.declared.fault.JobFault.{JobFault}

@@ -1,6 +1,6 @@
 -- A job as the code keeps it.
 use Rattle.std.specs.Prelude.{◌≡◌, ℕ, ◌<◌, ◌≤◌, All, List, length, map, slice_index_or}
-use Rattle.party_set.specs.Names.{AreNames}
+use Rattle.party_names.specs.Names.{AreNames}
 use Rattle.party_set.specs.Parties.{Members}
 use Rattle.job_file.specs.declared.job.Job.{Job}
 use Rattle.job_file.specs.declared.job.JobSession.{JobSession}

@@ -4,7 +4,7 @@ use Rattle.std.specs.List.{before_first, after_first}
 use Rattle.std.specs.Option.{option_map, option_zip}
 use Rattle.std.specs.Str.Parse.{digits_value}
 use Rattle.text_tokens.specs.Numbers.{is_decimal}
-use Rattle.party_set.specs.Names.{party_named}
+use Rattle.party_names.specs.Names.{party_named}
 use Rattle.job_file.specs.declared.owner.JobOwner.{JobOwner}
 use Rattle.job_file.specs.declared.owner.JobOwner.TheVariants.{Party, Carried}
 use Rattle.job_limits.specs.declared.limits.TheConstants.{MOST_VALUES}

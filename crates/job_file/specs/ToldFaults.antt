@@ -1,8 +1,8 @@
 -- What the line of a refusal tells of a fault of a job's file.
 use Rattle.std.specs.Prelude.{ℕ, List, [], ◌∷◌, ◌++◌, codes, Some}
 use Rattle.fault_table.specs.Tables.{Keys, Entry, fault, in_session, at_place, Number, Signed, Text, Name}
-use Rattle.party_set.specs.declared.names.NamesFault.{NamesFault}
-use Rattle.party_set.specs.declared.names.NamesFault.TheVariants.{BadName, TwiceNamed, PartyCount, Memory as NoMemory}
+use Rattle.party_names.specs.declared.names.NamesFault.{NamesFault}
+use Rattle.party_names.specs.declared.names.NamesFault.TheVariants.{BadName, TwiceNamed, PartyCount, Memory as NoMemory}
 use Rattle.job_file.specs.Names.{field_text}
 use Rattle.job_file.specs.declared.field.Field.{Field}
 use Rattle.job_file.specs.declared.fault.JobFault.{JobFault}

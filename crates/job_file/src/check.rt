@@ -14,7 +14,7 @@ use crate::fault::JobFault;
 use crate::field::Field;
 use crate::products::Products;
 use crate::texts::{are_own, are_short, products_named};
-use party_set::NameText;
+use party_names::NameText;
 use std::alloc::{AllocError, Global};
 use toml::Table;
 use toml_fields::{has_field, integer_at, is_misfit, least_unknown, text_at};

@@ -20,7 +20,7 @@ use crate::top::{
     check_version, check_views, read_parties,
 };
 use crate::values::job_of;
-use party_set::Names;
+use party_names::Names;
 use std::alloc::Global;
 use toml::Table;
 use toml_fields::{document, items_at};

@@ -3,7 +3,7 @@ ghost use Rattle.std.specs.Prelude.{◌≡◌};
 ghost use Rattle.job_file.specs.declared.fault.JobFault.TheVariants.{Memory};
 
 use crate::field::Field;
-use party_set::{NameText, NamesFault};
+use party_names::{NameText, NamesFault};
 use std::alloc::AllocError;
 
 /// The first fault of a job's file. Sessions, output values and places in a list are counted from 0. A fault of the top

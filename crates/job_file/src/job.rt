@@ -4,7 +4,8 @@ use crate::owner::JobOwner;
 use crate::products::Products;
 use mpc_ring::Ring;
 use outer_io::Hosts;
-use party_set::{Group, NameText, Names};
+use party_names::{NameText, Names};
+use party_set::Group;
 
 /// What tells which groups are tolerated: the text of a formula, which is false for them, or a list of groups, in which
 /// they lie.

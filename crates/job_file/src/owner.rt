@@ -3,7 +3,7 @@ ghost use Rattle.std.specs.Prelude.{◌≡◌, true, false, MatchOption, IfSome,
 ghost use Rattle.job_file.specs.Owners.{is_carry, number_below, carry_in, owner_in, IsOwner};
 
 use job_limits::MOST_VALUES;
-use party_set::Names;
+use party_names::Names;
 use text_tokens::{is_decimal, number};
 
 /// What gives an input value: a party, or an output value of an earlier session.

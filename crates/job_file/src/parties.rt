@@ -6,7 +6,7 @@ ghost use Rattle.toml.specs.View.{view};
 ghost use Rattle.toml_fields.specs.Fields.{text_of, texts_of};
 ghost use Rattle.job_file.specs.Faults.{bad_name, bad_in_lists, is_no_party};
 
-use party_set::Names;
+use party_names::Names;
 use toml::Value;
 use toml_fields::{items_of, text_of};
 

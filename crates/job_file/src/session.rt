@@ -15,7 +15,7 @@ use crate::owner::{is_carry, owner_in};
 use crate::parties::bad_in_lists;
 use crate::texts::{is_file_name, layout_of};
 use job_limits::MOST_SESSIONS;
-use party_set::Names;
+use party_names::Names;
 use std::alloc::Global;
 use toml::{Table, Value};
 use toml_fields::{fields_of, items_at, text_at, text_of};

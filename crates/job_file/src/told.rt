@@ -6,7 +6,7 @@ ghost use Rattle.job_file.specs.ToldFaults.{fault_part, of_field, of_count, told
 use crate::fault::JobFault;
 use crate::field::Field;
 use fault_table::Entry;
-use party_set::NamesFault;
+use party_names::NamesFault;
 
 impl JobFault {
     /// The part of the job that has the fault: the file's own text, or the parties' names.

@@ -21,7 +21,7 @@ use crate::limits::{LAST_PORT, MOST_TOLERATED};
 use crate::parties::bad_in_lists;
 use crate::texts::is_host;
 use job_limits::MOST_SESSIONS;
-use party_set::{Names, NamesFault, read_names};
+use party_names::{Names, NamesFault, read_names};
 use std::alloc::Global;
 use toml::{Table, Value};
 use toml_fields::{integer_at, items_at, text_of, texts_at};

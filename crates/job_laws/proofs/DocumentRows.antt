@@ -17,8 +17,8 @@ use Rattle.toml_fields.specs.declared.kind.Kind.{Kind}
 use Rattle.toml_fields.specs.declared.kind.Kind.TheVariants as kinds
 use Rattle.toml_fields.specs.Fields.{items_of, text_of, texts_of, fields_of, integer_of, has_field, is_misfit, integer_at, text_at, items_at, texts_at, is_of_kind}
 use Rattle.list_laws.specs.Checks.{◌answers◌, or_fault}
-use Rattle.party_set.specs.Names.{names_fault, AreNames}
-use Rattle.party_set.proofs.NameFaults.{no_fault_from}
+use Rattle.party_names.specs.Names.{names_fault, AreNames}
+use Rattle.party_names.proofs.NameFaults.{no_fault_from}
 use Rattle.circuit_model.specs.declared.layout.CircuitLayout.TheVariants.{Bristol, Ring}
 use Rattle.job_file.specs.declared.field.Field.{Field}
 use Rattle.job_file.specs.declared.field.Field.TheVariants.{Version, RingBits, Parties, Formula, Tolerated, Hosts, Port, Frames, Views, Session, Circuit, Layout, Products as ProductsField, Owners, Readers}

@@ -16,7 +16,7 @@ use Rattle.std.proofs.lemmas.Nat.Bits.{bit_at-zero, bit_at_or, bit_at-pow_same, 
 use Rattle.std.proofs.Math.Pow.{pow-lt}
 use Rattle.list_laws.specs.Lists.{joined, only_if}
 use Rattle.party_set.specs.Parties.{has_party}
-use Rattle.party_set.specs.Names.{name_at, party_named, AreNames}
+use Rattle.party_names.specs.Names.{name_at, party_named, AreNames}
 use Rattle.job_file.specs.Forms.{party_of, mask_of}
 use Rattle.job_file.specs.Faults.{is_no_party, bad_name, bad_in_lists}
 use Rattle.job_laws.specs.Documents.{member_names}

@@ -13,8 +13,8 @@ use Rattle.list_laws.specs.Checks.{◌answers◌}
 use Rattle.text_tokens.specs.Numbers.{is_decimal}
 use Rattle.text_tokens.proofs.Values.{digits, all_digits}
 use Rattle.text_tokens.proofs.Decimals.{decimal_is}
-use Rattle.party_set.specs.declared.limits.TheConstants.{LONGEST_NAME}
-use Rattle.party_set.specs.Names.{is_name, name_at, party_named, AreNames}
+use Rattle.party_names.specs.declared.names.TheConstants.{LONGEST_NAME}
+use Rattle.party_names.specs.Names.{is_name, name_at, party_named, AreNames}
 use Rattle.job_file.specs.declared.fault.JobFault.{JobFault}
 use Rattle.job_file.specs.declared.fault.JobFault.TheVariants.{BadCarry, BadOwner}
 use Rattle.job_file.specs.declared.owner.JobOwner.{JobOwner}

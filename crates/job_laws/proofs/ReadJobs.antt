@@ -16,8 +16,8 @@ use Rattle.toml_fields.specs.Keys.{is_known, least_unknown}
 use Rattle.toml_fields.specs.Fields.{items_of, text_of, integer_of, fields_of, has_field, integer_at, items_at, texts_at}
 use Rattle.list_laws.specs.Checks.{◌answers◌, first_fault, or_fault}
 use Rattle.list_laws.proofs.FirstFaults.{or_fault-ok, not_failed, passed-three}
-use Rattle.party_set.specs.Names.{party_named, names_fault, AreNames}
-use Rattle.party_set.proofs.NameFaults.{no_fault_tells}
+use Rattle.party_names.specs.Names.{party_named, names_fault, AreNames}
+use Rattle.party_names.proofs.NameFaults.{no_fault_tells}
 use Rattle.circuit_model.specs.declared.layout.CircuitLayout.TheVariants.{Bristol, Ring}
 use Rattle.job_file.specs.declared.field.Field.{Field}
 use Rattle.job_file.specs.declared.field.Field.TheVariants.{RingBits, Parties, Formula, Tolerated, Hosts, Port, Frames, Views, Session, Circuit, Layout, Products as ProductsField, Owners, Readers}

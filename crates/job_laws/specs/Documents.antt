@@ -6,7 +6,7 @@ use Rattle.toml.specs.Data.{Data, string, integer, array, table, Items, no_items
 use Rattle.toml.specs.Text.{IsDocumentText}
 use Rattle.list_laws.specs.Lists.{joined, only_if}
 use Rattle.party_set.specs.Parties.{has_party}
-use Rattle.party_set.specs.Names.{name_at, AreNames}
+use Rattle.party_names.specs.Names.{name_at, AreNames}
 use Rattle.circuit_model.specs.declared.layout.CircuitLayout.TheVariants.{Bristol, Ring}
 use Rattle.job_file.specs.declared.field.Field.{Field}
 use Rattle.job_file.specs.declared.field.Field.TheVariants.{Version, RingBits, Parties, Formula, Tolerated, Hosts, Port, Frames, Views, Session, Circuit, Layout, Products as ProductsField, Owners, Readers}

@@ -4,13 +4,13 @@ use Rattle.std.proofs.lemmas.Bool.{cases_eq, cases_lt}
 use mathlib.Core.Logic.{inl, inr}
 use Rattle.list_laws.proofs.JoinedLists.{total_within}
 use Rattle.secret_sharing.specs.Schemes.{has_pair}
-use Rattle.job_session.specs.declared.side.Side.TheVariants.{First, Second}
-use Rattle.job_session.specs.Sessions.{Session, Slot}
-use Rattle.job_session.specs.Sessions.Slot.{Input, At_gate, Output, Mask, Mask_product, Masked, Kept}
-use Rattle.job_session.specs.SoundSessions.{Inside}
-use Rattle.job_session.specs.SlotNumbers.{prepared_before}
-use Rattle.job_session.specs.Counts.{prepared_products}
-use Rattle.job_session.proofs.SessionSlots.{slot_kinds, slots_are_numbered, turn_first, turn_product}
+use Rattle.session_slots.specs.declared.side.Side.TheVariants.{First, Second}
+use Rattle.session_slots.specs.Sessions.{Session, Slot}
+use Rattle.session_slots.specs.Sessions.Slot.{Input, At_gate, Output, Mask, Mask_product, Masked, Kept}
+use Rattle.session_slots.specs.SoundSessions.{Inside}
+use Rattle.session_slots.specs.SlotNumbers.{prepared_before}
+use Rattle.session_slots.specs.Counts.{prepared_products}
+use Rattle.session_slots.proofs.SessionSlots.{slot_kinds, slots_are_numbered, turn_first, turn_product}
 use Rattle.job_plan.specs.Plans.{Plan, session, scheme, slot, slots, slot_number, deals_in, least_held, place}
 use Rattle.job_plan.specs.Numbers.{is_mask, deals, deals_before, deal_slot, deal_place, masks_before}
 use Rattle.job_plan.proofs.SlotSums.{one, prepared_are}

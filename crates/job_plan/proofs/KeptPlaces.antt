@@ -4,12 +4,12 @@ use Rattle.std.specs.Prelude.{slice_index_or}
 use Rattle.std.proofs.lemmas.Bool.{cases_lt, false≢true}
 use Rattle.std.proofs.lemmas.List.{get_or_past}
 use mathlib.Core.Logic.{inl, inr}
-use Rattle.job_session.specs.declared.source.Source.TheVariants.{Given, Earlier}
-use Rattle.job_session.specs.Sessions.{carried_output, is_carried, no_kept, no_session, owners, source}
-use Rattle.job_session.specs.Sessions.Slot.{Kept}
-use Rattle.job_session.specs.Carries.{kept_place}
+use Rattle.session_slots.specs.declared.source.Source.TheVariants.{Given, Earlier}
+use Rattle.session_slots.specs.Sessions.{carried_output, is_carried, no_kept, no_session, owners, source}
+use Rattle.session_slots.specs.Sessions.Slot.{Kept}
+use Rattle.session_slots.specs.Carries.{kept_place}
 use Rattle.job_session.proofs.Carries.{kept_have_places}
-use Rattle.job_session.proofs.SessionSlots.{slots_are_numbered}
+use Rattle.session_slots.proofs.SessionSlots.{slots_are_numbered}
 use Rattle.job_plan.specs.Plans.{Plan, IsPlan, keeping_slot, session, slot, slots}
 
 -- input wire v of session s carries a wire of session r, which keeps it there

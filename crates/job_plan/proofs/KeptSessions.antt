@@ -8,17 +8,17 @@ use Rattle.list_laws.specs.Lists.{total, joined, only_if}
 use Rattle.list_laws.proofs.Totals.{total_eq, total_pick, total_swap, total_zero}
 use Rattle.list_laws.proofs.JoinedLists.{joined_eq, length-joined, length-listed, listed_at}
 use Rattle.secret_sharing.specs.Schemes.{has_pair}
-use Rattle.job_session.specs.declared.source.Source.{Source}
-use Rattle.job_session.specs.declared.source.Source.TheVariants.{Given, Earlier}
-use Rattle.job_session.specs.declared.values.Owner.TheVariants.{Carried}
-use Rattle.job_session.specs.declared.values.InputValue.{InputValue}
-use Rattle.job_session.specs.declared.values.OutputValue.{OutputValue}
-use Rattle.job_session.specs.declared.values.KeptWire.{KeptWire}
-use Rattle.job_session.specs.Sessions.{Session, carried_output, carries, first_output, is_carried, no_session, owners, owners_of, readers, readers_of, session_at, source}
-use Rattle.job_session.specs.Counts.{owned, outputs_read, prepared_products, products}
+use Rattle.session_slots.specs.declared.source.Source.{Source}
+use Rattle.session_slots.specs.declared.source.Source.TheVariants.{Given, Earlier}
+use Rattle.session_slots.specs.declared.values.Owner.TheVariants.{Carried}
+use Rattle.session_slots.specs.declared.values.InputValue.{InputValue}
+use Rattle.session_slots.specs.declared.values.OutputValue.{OutputValue}
+use Rattle.session_slots.specs.declared.values.KeptWire.{KeptWire}
+use Rattle.session_slots.specs.Sessions.{Session, carried_output, carries, first_output, is_carried, no_session, owners, owners_of, readers, readers_of, session_at, source}
+use Rattle.session_slots.specs.Counts.{owned, outputs_read, prepared_products, products}
 use Rattle.job_session.specs.Parts.{IsCarriedFrom}
-use Rattle.job_session.specs.Carries.{kept_for, kept_from}
-use Rattle.job_session.specs.SoundSessions.{AreKept, IsWired}
+use Rattle.session_slots.specs.Carries.{kept_for, kept_from}
+use Rattle.session_slots.specs.SoundSessions.{AreKept, IsWired}
 use Rattle.job_session.proofs.Carries.{can_keep, carried_outputs, kept_from_same}
 use Rattle.job_plan.specs.Plans.{Plan, least_held, scheme, session, words}
 use Rattle.job_plan.specs.Keeping.{AllFit, carried_count, keeping, keeping_plan}

@@ -5,12 +5,12 @@ use mathlib.Core.Logic.{inl, inr}
 use Rattle.list_laws.specs.Lists.{total}
 use Rattle.list_laws.proofs.Totals.{total_more}
 use Rattle.secret_sharing.specs.Schemes.{has_pair}
-use Rattle.job_session.specs.declared.side.Side.TheVariants.{First, Second}
-use Rattle.job_session.specs.Sessions.{Session, Slot, is_prepared}
-use Rattle.job_session.specs.Sessions.Slot.{Input, At_gate, Output, Mask, Mask_product, Masked, Kept}
-use Rattle.job_session.specs.SoundSessions.{Inside}
-use Rattle.job_session.specs.SlotNumbers.{prepared_before}
-use Rattle.job_session.proofs.SessionSlots.{ahead_first, slot_kinds, slots_are_numbered, turn_first, turn_product}
+use Rattle.session_slots.specs.declared.side.Side.TheVariants.{First, Second}
+use Rattle.session_slots.specs.Sessions.{Session, Slot, is_prepared}
+use Rattle.session_slots.specs.Sessions.Slot.{Input, At_gate, Output, Mask, Mask_product, Masked, Kept}
+use Rattle.session_slots.specs.SoundSessions.{Inside}
+use Rattle.session_slots.specs.SlotNumbers.{prepared_before}
+use Rattle.session_slots.proofs.SessionSlots.{ahead_first, slot_kinds, slots_are_numbered, turn_first, turn_product}
 use Rattle.job_plan.specs.Plans.{Plan, session, scheme, slot, slots, slot_number, least_held, words_in, place}
 use Rattle.job_plan.specs.Numbers.{is_mask}
 

@@ -9,11 +9,11 @@ use Rattle.party_set.specs.Parties.{has_party}
 use Rattle.job_plan.specs.declared.key.Key.{Key}
 use Rattle.job_plan.specs.declared.pattern.Transfer.{Transfer}
 use Rattle.job_plan.specs.declared.pattern.Pattern.TheVariants.{Silent, Multiplied, Joined, Held}
-use Rattle.job_session.specs.declared.source.Source.{Source}
-use Rattle.job_session.specs.declared.source.Source.TheVariants.{Given, Earlier}
-use Rattle.job_session.specs.Sessions.{Slot, readers, is_direct, is_prepared, source}
+use Rattle.session_slots.specs.declared.source.Source.{Source}
+use Rattle.session_slots.specs.declared.source.Source.TheVariants.{Given, Earlier}
+use Rattle.session_slots.specs.Sessions.{Slot, readers, is_direct, is_prepared, source}
 use Rattle.job_plan.specs.Plans.{Plan, is_holder, holder_of, scheme, session}
-use Rattle.job_session.specs.Sessions.Slot.{Input, At_gate, Output, Mask, Mask_product, Masked, Kept}
+use Rattle.session_slots.specs.Sessions.Slot.{Input, At_gate, Output, Mask, Mask_product, Masked, Kept}
 use Rattle.job_plan.specs.Messages.{deal_message, deal_messages, input_messages, kept_messages, open_messages, slot_messages}
 use Rattle.job_plan.specs.Patterns.{named, deal_transfer, deal_transfers, held_transfer, input_pattern, open_transfers, transfers, pattern, SlotsFollowPatterns}
 

@@ -6,11 +6,11 @@ use Rattle.std.proofs.lemmas.Bool.{cases_Bool}
 use Rattle.list_laws.proofs.Totals.{total_add, total_eq, total_zero, total_mul_left, total_count}
 use Rattle.circuit_model.specs.declared.gate.Gate.{Gate}
 use Rattle.circuit_model.specs.Circuits.{is_product}
-use Rattle.job_session.specs.declared.side.Side.TheVariants.{First, Second}
-use Rattle.job_session.specs.Sessions.{Session, Slot, owners, readers, gate, no_gate, is_prepared, is_direct, mask_slots, mask_product_slots, turns_of_masks, prepared_slots, gate_slots, slot_list, session_slot, session_slots}
-use Rattle.job_session.specs.Sessions.Slot.{Input, At_gate, Output, Mask, Mask_product, Masked, Kept}
-use Rattle.job_session.specs.Counts.{products, prepared_products}
-use Rattle.job_session.proofs.SessionSlots.{in_turn, in_two}
+use Rattle.session_slots.specs.declared.side.Side.TheVariants.{First, Second}
+use Rattle.session_slots.specs.Sessions.{Session, Slot, owners, readers, gate, no_gate, is_prepared, is_direct, mask_slots, mask_product_slots, turns_of_masks, prepared_slots, gate_slots, slot_list, session_slot, session_slots}
+use Rattle.session_slots.specs.Sessions.Slot.{Input, At_gate, Output, Mask, Mask_product, Masked, Kept}
+use Rattle.session_slots.specs.Counts.{products, prepared_products}
+use Rattle.session_slots.proofs.SessionSlots.{in_turn, in_two}
 
 -- ---- counts as sums
 

@@ -1,10 +1,10 @@
 -- The slots of a session of a plan.
 use Rattle.std.proofs.Common.{◌≡◌, ℕ, zero, suc, ◌<◌, ◌≤◌, Bool, true, false, if◌then◌else◌, length, arith}
-use Rattle.job_session.specs.Sessions.{Session, is_prepared, session_slots}
-use Rattle.job_session.specs.SoundSessions.{IsWired}
-use Rattle.job_session.specs.SlotNumbers.{prepared_before}
+use Rattle.session_slots.specs.Sessions.{Session, is_prepared, session_slots}
+use Rattle.session_slots.specs.SoundSessions.{IsWired}
+use Rattle.session_slots.specs.SlotNumbers.{prepared_before}
 use Rattle.job_plan.specs.Plans.{Plan, session, slot, slots, slot_number}
-use Rattle.job_session.proofs.SessionSlots.{slots_are_numbered}
+use Rattle.session_slots.proofs.SessionSlots.{slots_are_numbered}
 
 pub at_its_number : (plan : Plan) (s k : ℕ) → k < slots plan s → slot_number plan s (slot plan s k) ≡ k
 at_its_number plan s k lk = (slots_are_numbered (session plan s)).number k lk

@@ -8,19 +8,19 @@ use Rattle.list_laws.proofs.Totals.{total_eq, total_zero, total_add, total_mul_l
 use Rattle.list_laws.proofs.JoinedLists.{length-joined, joined_more}
 use Rattle.secret_sharing.specs.Schemes.{has_pair}
 use Rattle.party_set.specs.Parties.{has_party}
-use Rattle.job_session.specs.declared.source.Source.{Source}
-use Rattle.job_session.specs.declared.source.Source.TheVariants.{Given, Earlier}
-use Rattle.job_session.specs.Sessions.{Session, Slot, given_by, owners, readers, source}
+use Rattle.session_slots.specs.declared.source.Source.{Source}
+use Rattle.session_slots.specs.declared.source.Source.TheVariants.{Given, Earlier}
+use Rattle.session_slots.specs.Sessions.{Session, Slot, given_by, owners, readers, source}
 use Rattle.job_plan.specs.Plans.{Plan, session, slot, slots, scheme, deals_in, is_holder, holder_of, opens_to, least_held, words_in, words_before, words}
 use Rattle.job_plan.specs.declared.key.Key.{Key}
-use Rattle.job_session.specs.Sessions.Slot.{Input, At_gate, Output, Mask, Mask_product, Masked, Kept}
+use Rattle.session_slots.specs.Sessions.Slot.{Input, At_gate, Output, Mask, Mask_product, Masked, Kept}
 use Rattle.job_plan.specs.Messages.{messages, slot_messages, deal_message, deal_messages, input_messages, kept_message, kept_messages, open_messages, mask_messages, product_messages}
 use Rattle.job_plan.specs.Numbers.{is_mask, deals, deals_before}
 use Rattle.job_plan.specs.Firsts.{session_count}
-use Rattle.job_session.specs.Counts.{products, prepared_products, owned}
+use Rattle.session_slots.specs.Counts.{products, prepared_products, owned}
 use Rattle.job_plan.specs.Tallies.{keeping_messages, openings, party_messages, masks_messages, tape_length}
-use Rattle.job_session.proofs.SessionSlots.{slot_kinds}
-use Rattle.job_session.specs.SoundSessions.{Inside}
+use Rattle.session_slots.proofs.SessionSlots.{slot_kinds}
+use Rattle.session_slots.specs.SoundSessions.{Inside}
 use Rattle.job_plan.proofs.SlotMessages.{length-messages}
 use Rattle.job_plan.proofs.SlotSums.{one, by_kind, masks_same, gates_same, products_dealt}
 

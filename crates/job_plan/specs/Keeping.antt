@@ -1,8 +1,8 @@
 -- Sessions of a list that keep what the sessions behind them carry.
 use Rattle.std.specs.Prelude.{ℕ, ◌<◌, if◌then◌else◌, List, length, take}
 use Rattle.list_laws.specs.Lists.{listed, total}
-use Rattle.job_session.specs.Sessions.{Session, first_output, is_carried, owners, session_at, source}
-use Rattle.job_session.specs.Carries.{kept_from}
+use Rattle.session_slots.specs.Sessions.{Session, first_output, is_carried, owners, session_at, source}
+use Rattle.session_slots.specs.Carries.{kept_from}
 use Rattle.job_session.specs.Parts.{CarriesFit}
 use Rattle.job_plan.specs.Plans.{Plan}
 

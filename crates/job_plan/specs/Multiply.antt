@@ -3,8 +3,8 @@
 use Rattle.std.specs.Prelude.{ℕ, false, [], ◌∷◌}
 use Rattle.circuit_model.specs.declared.gate.Operation.TheVariants.{Mul}
 use Rattle.party_set.specs.Parties.{Structure}
-use Rattle.job_session.specs.declared.values.Owner.TheVariants.{Party}
-use Rattle.job_session.specs.Sessions.{Session}
+use Rattle.session_slots.specs.declared.values.Owner.TheVariants.{Party}
+use Rattle.session_slots.specs.Sessions.{Session}
 use Rattle.job_plan.specs.Plans.{Plan, plan_of}
 
 -- any two of a, b and c are qualified

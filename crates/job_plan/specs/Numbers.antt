@@ -2,9 +2,9 @@
 use Rattle.std.specs.Prelude.{◌≡◌, ◌≢◌, ℕ, ◌+◌, ◌*◌, ◌<◌, Bool, true, false, ◌&&◌, nat_eq, nat_le, List, length, slice_index_or, if◌then◌else◌}
 use Rattle.std.specs.List.{position_or_len}
 use Rattle.list_laws.specs.Lists.{total}
-use Rattle.job_session.specs.declared.side.Side.{Side}
-use Rattle.job_session.specs.Sessions.{Slot}
-use Rattle.job_session.specs.Sessions.Slot.{Mask}
+use Rattle.session_slots.specs.declared.side.Side.{Side}
+use Rattle.session_slots.specs.Sessions.{Slot}
+use Rattle.session_slots.specs.Sessions.Slot.{Mask}
 use Rattle.job_plan.specs.Plans.{Plan, slot, slots, holder_of, least_held, words_in, place, deals_in}
 use Rattle.job_plan.specs.declared.key.Key.{Key}
 use Rattle.job_plan.specs.declared.pattern.TransferOrder.{TransferOrder}

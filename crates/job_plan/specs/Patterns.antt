@@ -9,10 +9,10 @@ use Rattle.job_plan.specs.declared.pattern.TransferOrder.{TransferOrder}
 use Rattle.job_plan.specs.declared.pattern.TransferOrder.TheVariants.{BySender, BySummand, ByReceiver}
 use Rattle.job_plan.specs.declared.pattern.Pattern.{Pattern}
 use Rattle.job_plan.specs.declared.pattern.Pattern.TheVariants.{Silent, Dealt, Multiplied, Opened, HandedOut, OpenedToAll, Joined, Held, Received}
-use Rattle.job_session.specs.declared.source.Source.{Source}
-use Rattle.job_session.specs.declared.source.Source.TheVariants.{Given, Earlier}
-use Rattle.job_session.specs.Sessions.{Slot, readers, is_direct, is_prepared, source}
-use Rattle.job_session.specs.Sessions.Slot.{Input, At_gate, Output, Mask, Mask_product, Masked, Kept}
+use Rattle.session_slots.specs.declared.source.Source.{Source}
+use Rattle.session_slots.specs.declared.source.Source.TheVariants.{Given, Earlier}
+use Rattle.session_slots.specs.Sessions.{Slot, readers, is_direct, is_prepared, source}
+use Rattle.session_slots.specs.Sessions.Slot.{Input, At_gate, Output, Mask, Mask_product, Masked, Kept}
 use Rattle.job_plan.specs.Plans.{Plan, is_holder, holder_of, scheme, session, slot}
 use Rattle.job_plan.specs.Messages.{slot_messages}
 

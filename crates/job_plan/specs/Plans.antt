@@ -3,11 +3,11 @@ use Rattle.std.specs.Prelude.{◌≡◌, ℕ, ◌+◌, ◌-◌, ◌<◌, Bool, t
 use Rattle.list_laws.specs.Lists.{total}
 use Rattle.secret_sharing.specs.Schemes.{Scheme, has_pair}
 use Rattle.party_set.specs.Parties.{Structure, IsQ2, has_party}
-use Rattle.job_session.specs.declared.source.Source.TheVariants.{Earlier}
-use Rattle.job_session.specs.Sessions.{Session, Slot, given_by, is_direct, no_session, owners, readers, session_slot, session_slots, source}
-use Rattle.job_session.specs.Sessions.Slot.{Input, At_gate, Output, Mask, Mask_product, Masked, Kept}
-use Rattle.job_session.specs.Carries.{kept_from, kept_place}
-use Rattle.job_session.specs.SlotNumbers.{session_slot_number}
+use Rattle.session_slots.specs.declared.source.Source.TheVariants.{Earlier}
+use Rattle.session_slots.specs.Sessions.{Session, Slot, given_by, is_direct, no_session, owners, readers, session_slot, session_slots, source}
+use Rattle.session_slots.specs.Sessions.Slot.{Input, At_gate, Output, Mask, Mask_product, Masked, Kept}
+use Rattle.session_slots.specs.Carries.{kept_from, kept_place}
+use Rattle.session_slots.specs.SlotNumbers.{session_slot_number}
 use Rattle.share_layout.specs.Layouts as layout
 use Rattle.product_duty.specs.Duties as duties
 

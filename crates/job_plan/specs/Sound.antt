@@ -1,7 +1,7 @@
 -- Plans within the limits, and the tables that go with a plan.
 use Rattle.std.specs.Prelude.{◌≡◌, ℕ, ◌<◌, ◌≤◌, List, length}
 use Rattle.list_laws.specs.Lists.{total}
-use Rattle.job_session.specs.SoundSessions.{IsSoundSession}
+use Rattle.session_slots.specs.SoundSessions.{IsSoundSession}
 use Rattle.job_plan.specs.Plans.{Plan, session, words, Q2, CarriesEarlier, KeepsCarried}
 use Rattle.job_plan.specs.Keeping.{AllFit}
 use Rattle.job_plan.specs.declared.patterns.Patterns.{Patterns}

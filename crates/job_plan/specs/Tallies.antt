@@ -1,7 +1,7 @@
 -- How many messages and tape words a party has in all sessions.
 use Rattle.std.specs.Prelude.{ℕ, ◌+◌, ◌*◌, length}
 use Rattle.list_laws.specs.Lists.{total}
-use Rattle.job_session.specs.Counts.{outputs_read, prepared_products}
+use Rattle.session_slots.specs.Counts.{outputs_read, prepared_products}
 use Rattle.job_plan.specs.Plans.{Plan, session, words}
 use Rattle.job_plan.specs.Messages.{deal_messages, open_messages, mask_messages, kept_messages}
 use Rattle.job_plan.specs.Numbers.{deals}

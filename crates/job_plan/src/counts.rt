@@ -5,7 +5,7 @@ ghost use Rattle.job_plan.specs.Plans.{is_holder, session, least_held, words};
 ghost use Rattle.job_plan.specs.Keeping.{carried_count, keeping_plan};
 ghost use Rattle.job_plan.specs.Messages.{deal_message, deal_messages, kept_message, kept_messages, mask_messages, messages, open_messages};
 ghost use Rattle.job_plan.specs.Numbers.{deals};
-ghost use Rattle.job_session.specs.Counts.{prepared_products};
+ghost use Rattle.session_slots.specs.Counts.{prepared_products};
 ghost use Rattle.job_plan.specs.Tallies.{keeping_messages, openings, party_messages, masks_messages, tape_length};
 
 use crate::outline::Outline;

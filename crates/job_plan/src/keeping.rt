@@ -2,10 +2,10 @@
 ghost use Rattle.std.specs.Prelude.{◌≡◌, ℕ, ◌<◌, ◌≤◌, ◌++◌, All, IfOk, OnOk, [], length, map};
 ghost use Rattle.std.specs.Global.{Vec};
 ghost use Rattle.list_laws.specs.Lists.{joined, listed};
-ghost use Rattle.job_session.specs.declared.values.KeptWire.{KeptWire};
-ghost use Rattle.job_session.specs.Sessions.{owners, session_at};
-ghost use Rattle.job_session.specs.Carries.{kept_for, kept_from};
-ghost use Rattle.job_session.specs.SoundSessions.{IsSoundSession, IsWired};
+ghost use Rattle.session_slots.specs.declared.values.KeptWire.{KeptWire};
+ghost use Rattle.session_slots.specs.Sessions.{owners, session_at};
+ghost use Rattle.session_slots.specs.Carries.{kept_for, kept_from};
+ghost use Rattle.session_slots.specs.SoundSessions.{IsSoundSession, IsWired};
 ghost use Rattle.job_plan.specs.Keeping.{AllFit, first_outputs, keeping};
 
 use job_limits::MOST_SESSIONS;

@@ -38,9 +38,9 @@ impl Outline {
     ghost use Rattle.secret_sharing.specs.Schemes.{has_pair};
     ghost use Rattle.job_plan.specs.Plans.{structure, scheme, session, slot, slots, plan_of, is_holder, holder_of};
     ghost use Rattle.job_plan.specs.Numbers.{is_mask};
-    ghost use Rattle.job_session.specs.Sessions.Slot.{At_gate};
+    ghost use Rattle.session_slots.specs.Sessions.Slot.{At_gate};
     ghost use Rattle.job_plan.specs.Patterns.{pattern, pattern_at, Occurs};
-    ghost use Rattle.job_session.specs.SoundSessions.{IsSoundSession};
+    ghost use Rattle.session_slots.specs.SoundSessions.{IsSoundSession};
     ghost use Rattle.job_plan.specs.Keeping.{AllFit, keeping_plan};
     ghost use Rattle.job_plan.specs.Sound.{IsOutline};
 

@@ -1,7 +1,7 @@
 //! The patterns of a plan.
 ghost use Rattle.std.specs.Prelude.{◌≡◌, ℕ, ◌<◌, IfOk, OnOk, length, slice_index};
 ghost use Rattle.list_laws.specs.Lists.{listed};
-ghost use Rattle.job_session.specs.Sessions.{readers};
+ghost use Rattle.session_slots.specs.Sessions.{readers};
 ghost use Rattle.job_plan.specs.Plans.{session};
 ghost use Rattle.job_plan.specs.Patterns.{deal_transfers, IsReadBy};
 ghost use Rattle.job_plan.specs.Tables.{AreOpenings, HasOpening};

@@ -52,14 +52,15 @@ impl Plan {
     ghost use Rattle.std.specs.Prelude.{◌≡◌, ℕ, ◌+◌, ◌-◌, ◌*◌, ◌<◌, ◌≤◌, true, if◌then◌else◌, map, length};
     ghost use Rattle.std.specs.Prelude.{All, IfOk, IfErr, OnOk, SomeIff};
     ghost use Rattle.std.specs.Arc.{arc_value};
-    ghost use Rattle.job_session.specs.KeptWires.{IsRows, live};
+    ghost use Rattle.job_session.specs.Rows.{IsRows};
+    ghost use Rattle.session_slots.specs.KeptWires.{live};
     ghost use Rattle.job_plan.specs.Plans.{plan_of, structure, scheme, session, slot, slots, deals_in};
     ghost use Rattle.job_plan.specs.Plans.{words, place, random_place, least_held};
     ghost use Rattle.secret_sharing.specs.Schemes.{has_pair};
     ghost use Rattle.job_plan.specs.Messages.{messages, slot_messages};
     ghost use Rattle.job_plan.specs.Patterns.{named, transfers, pattern_at, Occurs};
     ghost use Rattle.job_plan.specs.Numbers.{message, number, deals, deals_before, deal_place, deal_slot, is_mask, masks_before, DrawsSummand};
-    ghost use Rattle.job_session.specs.SoundSessions.{IsSoundSession};
+    ghost use Rattle.session_slots.specs.SoundSessions.{IsSoundSession};
     ghost use Rattle.job_plan.specs.Keeping.{AllFit, keeping};
     ghost use Rattle.job_plan.specs.Sound.{IsSound};
     ghost use Rattle.job_plan.specs.Firsts.{first};

@@ -3,10 +3,10 @@ use Rattle.std.proofs.Common.{◌≡◌, ℕ, zero, suc, ◌+◌, ◌-◌, ◌<�
 use Rattle.std.proofs.lemmas.Bool.{cases_Bool, cases_eq, cond-true, cond-false, cond_both, and_cases, and_parts, both_ways, eq-eqb, eqb-true, le-leb, leb-true, or_parts, or_from}
 use mathlib.Core.Logic.{inl, inr}
 use Rattle.list_laws.specs.Lists.{some_below}
-use Rattle.job_session.specs.Sessions.{Session, session_slots}
+use Rattle.session_slots.specs.Sessions.{Session, session_slots}
 use Rattle.job_session.specs.Batches.{waits_for, waits, batch, is_last}
 use Rattle.job_session.specs.BatchLaws.{AreLongestRuns}
-use Rattle.job_session.proofs.KeptRows.{some_found}
+use Rattle.session_slots.proofs.KeptRows.{some_found}
 use Rattle.job_session.proofs.ScannedSlots.{total_most}
 
 pub none_below : (n : ℕ) (f : ℕ → Bool) (j : ℕ) → some_below n f ≡ false → j < n → f j ≡ false

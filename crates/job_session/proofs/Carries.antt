@@ -11,17 +11,17 @@ use Rattle.list_laws.proofs.Totals.{total_eq}
 use Rattle.list_laws.proofs.JoinedLists.{joined_eq, joined_place, length-joined, length-listed, listed_at, locate, total_within}
 use Rattle.plan_faults.specs.declared.part_fault.PartFault.{PartFault}
 use Rattle.plan_faults.specs.declared.part_fault.PartFault.TheVariants.{CarryWidth}
-use Rattle.job_session.specs.declared.values.KeptWire.{KeptWire}
-use Rattle.job_session.specs.declared.values.Owner.{Owner}
-use Rattle.job_session.specs.declared.values.Owner.TheVariants.{Party, Carried}
-use Rattle.job_session.specs.declared.values.InputValue.{InputValue}
-use Rattle.job_session.specs.declared.values.OutputValue.{OutputValue}
-use Rattle.job_session.specs.declared.source.Source.{Source}
-use Rattle.job_session.specs.declared.source.Source.TheVariants.{Given, Earlier}
-use Rattle.job_session.specs.Sessions.{Session, carried_output, carries, is_carried, no_kept, no_session, owners, owners_of, readers, readers_of, session_at, source, source_from}
+use Rattle.session_slots.specs.declared.values.KeptWire.{KeptWire}
+use Rattle.session_slots.specs.declared.values.Owner.{Owner}
+use Rattle.session_slots.specs.declared.values.Owner.TheVariants.{Party, Carried}
+use Rattle.session_slots.specs.declared.values.InputValue.{InputValue}
+use Rattle.session_slots.specs.declared.values.OutputValue.{OutputValue}
+use Rattle.session_slots.specs.declared.source.Source.{Source}
+use Rattle.session_slots.specs.declared.source.Source.TheVariants.{Given, Earlier}
+use Rattle.session_slots.specs.Sessions.{Session, carried_output, carries, is_carried, no_kept, no_session, owners, owners_of, readers, readers_of, session_at, source, source_from}
 use Rattle.job_session.specs.Parts.{input_values, AreEarlier, IsCarriedFrom, CarriesFit, CarriesOutputs, carry_fault, owner_fault, carries_fault}
-use Rattle.job_session.specs.Carries.{IsKeptAt, KeptHavePlaces, carried_before, carrier, kept_for, kept_from, kept_place}
-use Rattle.job_session.specs.SoundSessions.{AreKept, IsWired}
+use Rattle.session_slots.specs.Carries.{IsKeptAt, KeptHavePlaces, carried_before, carrier, kept_for, kept_from, kept_place}
+use Rattle.session_slots.specs.SoundSessions.{AreKept, IsWired}
 use Rattle.job_session.proofs.ScannedSlots.{total_most}
 
 -- neither of two faults is there

@@ -8,7 +8,7 @@ use Rattle.list_laws.proofs.Tests.{or_true, or_false}
 use Rattle.list_laws.proofs.Totals.{total_one, total_eq}
 use Rattle.job_session.specs.declared.row_scan.RowScan.{RowScan}
 use Rattle.job_session.specs.RowScans.{AreHeld, GivesRow, TakesBack, ends}
-use Rattle.job_session.specs.Wirings.{is_named}
+use Rattle.session_slots.specs.Wirings.{is_named}
 
 -- ---- how often a row is held, and how many wires hold one
 

@@ -1,5 +1,5 @@
 -- The batches after one slot more.
-use Rattle.std.proofs.Common.{◌≡◌, ℕ, zero, suc, ◌+◌, ◌-◌, ◌<◌, ◌≤◌, Bool, true, false, not, ◌&&◌, ◌||◌, ◌⊎◌, List, [], ◌∷◌, ◌++◌, length, replicate, take, inl, inr, Some, None, refl, sym, ◌∙◌, ap, subst, arith, length-append}
+use Rattle.std.proofs.Common.{◌≡◌, ℕ, zero, suc, ◌+◌, ◌-◌, ◌<◌, ◌≤◌, Bool, true, false, not, ◌&&◌, ◌||◌, ◌⊎◌, List, [], ◌∷◌, ◌++◌, length, replicate, inl, inr, Some, None, refl, sym, ◌∙◌, ap, subst, arith, length-append}
 use Rattle.std.specs.Prelude.{nat_eq, nat_le, slice_index, slice_index_or, Option, if◌then◌else◌}
 use Rattle.std.specs.List.{list_any}
 use Rattle.std.proofs.Math.ListN.{get_or-append}
@@ -10,22 +10,22 @@ use Rattle.list_laws.specs.Lists.{only_if, some_below}
 use Rattle.list_laws.proofs.Tests.{or_false}
 use Rattle.circuit_model.specs.declared.gate.Gate.{Gate}
 use Rattle.circuit_model.specs.Circuits.{is_product}
-use Rattle.circuit_model.specs.Netlists.{arity, inputs_read, read_by}
-use Rattle.circuit_model.specs.declared.gate.Operation.{Operation}
-use Rattle.circuit_model.specs.declared.gate.Operation.TheVariants.{Add, Sub, Mul, Neg, Eq, Eqw, And, Xor, Inv}
 use Rattle.job_session.specs.declared.batch_scan.BatchScan.{BatchScan}
-use Rattle.job_session.specs.Sessions.{Session, Slot, gate, no_gate, mask_wire, product_wire, row_names, owners, readers, output_wire, session_slot, session_slots}
-use Rattle.job_session.specs.Sessions.Slot.{Input, At_gate, Output, Mask, Mask_product, Masked, Kept}
-use Rattle.job_session.specs.KeptWires.{reads_in, slot_reads}
-use Rattle.job_session.specs.SoundSessions.{IsWired, Inside}
-use Rattle.job_session.specs.Wirings.{is_named}
-use Rattle.job_session.specs.Batches.{batch, completes, slot_completes, is_join, reads_early, sets_early, waits, waits_for, IsBatch, AreBatchEnds}
+use Rattle.session_slots.specs.Sessions.{Session, Slot, gate, no_gate, mask_wire, product_wire, row_names, owners, readers, output_wire, session_slot, session_slots}
+use Rattle.session_slots.specs.Sessions.Slot.{Input, At_gate, Output, Mask, Mask_product, Masked, Kept}
+use Rattle.session_slots.specs.KeptWires.{reads_in, slot_reads}
+use Rattle.session_slots.specs.SoundSessions.{IsWired, Inside}
+use Rattle.session_slots.specs.Wirings.{is_named}
+use Rattle.job_session.specs.Batches.{batch, waits, waits_for, IsBatch, AreBatchEnds}
+use Rattle.session_slots.specs.EarlyWires.{completes, slot_completes, is_join, reads_early, sets_early}
 use Rattle.job_session.specs.BatchScans.{stamp, has_join, IsBatchScan, IsGateSlot, AreEarlyReads, IsCompleted, has_stamp}
-use Rattle.job_session.proofs.SessionSlots.{none_prepared, slot_input, slot_gate, slot_output, slot_kinds}
-use Rattle.job_session.proofs.RowNames.{wires_named, mask_within, product_named}
-use Rattle.job_session.proofs.KeptRows.{one_wire, some_found, some_at}
-use Rattle.job_session.proofs.LastReads.{gate_reads}
-use Rattle.job_session.proofs.ScannedSlots.{same_bool, reads_within}
+use Rattle.session_slots.proofs.SessionSlots.{none_prepared, slot_input, slot_gate, slot_output, slot_kinds}
+use Rattle.session_slots.proofs.RowNames.{wires_named, mask_within, product_named}
+use Rattle.session_slots.proofs.SlotReads.{read_named}
+use Rattle.session_slots.proofs.KeptRows.{one_wire, some_found, some_at}
+use Rattle.session_slots.proofs.SlotReads.{gate_reads}
+use Rattle.job_session.proofs.ScannedSlots.{same_bool}
+use Rattle.session_slots.proofs.SlotReads.{reads_within}
 use Rattle.job_session.proofs.BatchOrder.{batch_within, same_batch, first_same, rising, next_begins, next_joins}
 
 -- ---- what slots complete
@@ -255,21 +255,6 @@ batch_by_stamps s (suc i) one two late scan b reads v join is =
     let waits_is : b ≡ waits s (batch s i) (suc i) = is ∙ ap (λ l. stamped || l) (join ∙ ap (λ l. l && sets_early s (session_slot s (suc i))) joins)
     ∙ waits_by_stamps s i one two scan.stamps.items (scan.first + 1) reads v.stamps (omega arith) in
     (λ e. next_begins s i (sym waits_is ∙ e), λ e. next_joins s i (sym waits_is ∙ e) ∙ ap (batch s) (sym before))
-
--- a gate reads wires in its fields alone
-named_in : (o : Operation) (a b w : ℕ) → list_any (nat_eq w) (inputs_read o (take (arity o) (a ∷ b ∷ []))) ≡ true → (nat_eq w a || nat_eq w b) ≡ true
-named_in Add a b w e = ap (λ z. nat_eq w a || z) (sym (or_false (nat_eq w b))) ∙ e
-named_in Sub a b w e = ap (λ z. nat_eq w a || z) (sym (or_false (nat_eq w b))) ∙ e
-named_in Mul a b w e = ap (λ z. nat_eq w a || z) (sym (or_false (nat_eq w b))) ∙ e
-named_in And a b w e = ap (λ z. nat_eq w a || z) (sym (or_false (nat_eq w b))) ∙ e
-named_in Xor a b w e = ap (λ z. nat_eq w a || z) (sym (or_false (nat_eq w b))) ∙ e
-named_in Neg a b w e = or_left (nat_eq w a) (nat_eq w b) (sym (or_false (nat_eq w a)) ∙ e)
-named_in Inv a b w e = or_left (nat_eq w a) (nat_eq w b) (sym (or_false (nat_eq w a)) ∙ e)
-named_in Eqw a b w e = or_left (nat_eq w a) (nat_eq w b) (sym (or_false (nat_eq w a)) ∙ e)
-named_in Eq a b w e = absurd (false≢true e)
-
-pub read_named : (g : Gate) (w : ℕ) → list_any (nat_eq w) (read_by g) ≡ true → (is_named (Some g.first) w || is_named (Some g.second) w) ≡ true
-read_named g w e = named_in g.operation g.first g.second w e
 
 -- so it is of the batch of the slot before it where none of those has the stamp
 pub gate_goes_on : (s : Session) → s.prepared ≡ false → (k : ℕ) (g : Gate) (scan : BatchScan) → IsGateSlot s k g → IsBatchScan s (k - 1) k scan

@@ -1,6 +1,6 @@
 -- What batches are.
 use Rattle.std.specs.Prelude.{◌≡◌, ℕ, ◌-◌, ◌<◌, ◌≤◌, true, false}
-use Rattle.job_session.specs.Sessions.{Session, session_slots}
+use Rattle.session_slots.specs.Sessions.{Session, session_slots}
 use Rattle.job_session.specs.Batches.{batch, batches, waits_for}
 
 -- the slots from the first of slot k's batch to k are of that batch, and k waits for none of those before it; the first

@@ -6,10 +6,11 @@ use Rattle.circuit_model.specs.Circuits.{is_product}
 use Rattle.circuit_model.specs.Netlists.{read_by}
 use Rattle.circuit_model.specs.declared.gate.Gate.{Gate}
 use Rattle.job_session.specs.declared.batch_scan.BatchScan.{BatchScan}
-use Rattle.job_session.specs.Sessions.{Session, row_names, session_slot}
-use Rattle.job_session.specs.KeptWires.{slot_reads}
-use Rattle.job_session.specs.Batches.{batch, is_join, reads_early, slot_completes, IsBatch}
-use Rattle.job_session.specs.Wirings.{is_named}
+use Rattle.session_slots.specs.Sessions.{Session, row_names, session_slot}
+use Rattle.session_slots.specs.KeptWires.{slot_reads}
+use Rattle.job_session.specs.Batches.{batch, IsBatch}
+use Rattle.session_slots.specs.EarlyWires.{is_join, reads_early, slot_completes}
+use Rattle.session_slots.specs.Wirings.{is_named}
 
 -- 1 more than the first slot of the batch in which a slot before slot k last completes wire w, and 0 where none does
 abbrev pub stamp : Session → ℕ → ℕ → ℕ

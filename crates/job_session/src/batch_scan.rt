@@ -1,14 +1,12 @@
 //! The batches of a session, found slot by slot.
 ghost use Rattle.std.specs.Prelude.{◌≡◌, ◌-◌, [], IfOk, OnOk, false};
-ghost use Rattle.job_session.specs.Sessions.{session_slots};
+ghost use Rattle.session_slots.specs.Sessions.{session_slots};
 ghost use Rattle.job_session.specs.Batches.{AreBatchEnds};
 ghost use Rattle.job_session.specs.BatchScans.{IsBatchScan};
-ghost use Rattle.job_session.specs.Wirings.{IsWiring, session_in};
+ghost use Rattle.session_slots.specs.Wirings.{IsWiring, session_in};
 
-use crate::slot_kind::SlotKind;
-use crate::touched::{completed, read_wires};
-use crate::wiring::Wiring;
 use circuit_model::Gate;
+use session_slots::{SlotKind, Wiring, completed, read_wires};
 use std::alloc::{AllocError, Global};
 
 /// The batches so far: for each wire one more than the first slot of the batch in which it was last completed, for each
@@ -24,11 +22,12 @@ pub(crate) struct BatchScan {
 
 impl BatchScan {
     ghost use Rattle.std.specs.Prelude.{◌≡◌, ℕ, ◌+◌, ◌-◌, ◌<◌, ◌≤◌, true, false, ◌&&◌, ◌||◌, ◌++◌, IfOk, OnOk, Some, length, replicate};
-    ghost use Rattle.job_session.specs.Sessions.{Session, row_names, session_slot, session_slots};
-    ghost use Rattle.job_session.specs.SoundSessions.{slot_of_kind, Inside};
-    ghost use Rattle.job_session.specs.Batches.{AreBatchEnds, is_join, sets_early};
+    ghost use Rattle.session_slots.specs.Sessions.{Session, row_names, session_slot, session_slots};
+    ghost use Rattle.session_slots.specs.SoundSessions.{slot_of_kind, Inside};
+    ghost use Rattle.job_session.specs.Batches.{AreBatchEnds};
+    ghost use Rattle.session_slots.specs.EarlyWires.{is_join, sets_early};
     ghost use Rattle.job_session.specs.BatchScans.{AreEarlyReads, IsBatchScan, IsCompleted, IsGateSlot, has_stamp};
-    ghost use Rattle.job_session.specs.Wirings.{IsWiring, is_named, session_in};
+    ghost use Rattle.session_slots.specs.Wirings.{IsWiring, is_named, session_in};
 
     // Before the first slot, over `wires` wires, with room for the ends of `slots` slots.
     fn start(alloc: Global, wires: usize, slots: usize) -> Result<BatchScan, AllocError>

@@ -8,9 +8,9 @@ use Rattle.party_set.specs.Parties.{Members}
 use Rattle.job_file.specs.declared.owner.JobOwner.{JobOwner}
 use Rattle.job_file.specs.declared.owner.JobOwner.TheVariants as job_owner
 use Rattle.job_file.specs.Owners.{IsOwner}
-use Rattle.job_session.specs.declared.values.Owner.TheVariants.{Party, Carried}
+use Rattle.session_slots.specs.declared.values.Owner.TheVariants.{Party, Carried}
 use Rattle.job_session.specs.Parts.{AreEarlier, AreOf, CarriesFit}
-use Rattle.job_session.specs.Sessions.{Session, no_session, session_at}
+use Rattle.session_slots.specs.Sessions.{Session, no_session, session_at}
 use Rattle.job_plan.specs.Keeping.{AllFit}
 use Rattle.job_walk.specs.JobOf.{owner_of}
 

@@ -5,7 +5,7 @@ use Rattle.outer_io.specs.Files.{FilesReading}
 use Rattle.party_set.specs.Parties.{Members}
 use Rattle.plan_faults.specs.declared.part_fault.PartFault.{PartFault}
 use Rattle.circuit_model.specs.Netlists.{Netlist}
-use Rattle.job_session.specs.Sessions.{Session}
+use Rattle.session_slots.specs.Sessions.{Session}
 use Rattle.job_file.specs.declared.owner.JobOwner.{JobOwner}
 use Rattle.job_file.specs.declared.products.Products.{Products}
 use Rattle.job_walk.specs.declared.stop.Stop.{Stop}

@@ -3,7 +3,7 @@ use Rattle.std.proofs.Common.{◌≡◌, ℕ, ◌<◌, ◌≤◌, ◌+◌, List,
 use Rattle.std.specs.Prelude.{IsErrAnd}
 use Rattle.std.specs.declared.alloc.Global.{Global}
 use Rattle.outer_io.specs.Files.{FilesReading}
-use Rattle.job_session.specs.Sessions.{Session}
+use Rattle.session_slots.specs.Sessions.{Session}
 use Rattle.job_file.specs.Forms.{JobForm, SessionForm}
 use Rattle.job_file.specs.Jobs.{session_view}
 use Rattle.job_file.specs.declared.job.JobSession.{JobSession}

@@ -12,9 +12,9 @@ use Rattle.circuit_model.specs.Netlists.{Netlist}
 use Rattle.circuit_file.specs.CircuitFiles.{circuit_in}
 use Rattle.expr_circuit.specs.Laws.{IsCircuitOf, IsFault as IsProgramFault}
 use Rattle.expr_circuit.specs.declared.fault.ExprFault.{ExprFault}
-use Rattle.job_session.specs.Sessions.{Session}
-use Rattle.job_session.specs.declared.values.Owner.{Owner}
-use Rattle.job_session.specs.declared.values.Owner.TheVariants as owner
+use Rattle.session_slots.specs.Sessions.{Session}
+use Rattle.session_slots.specs.declared.values.Owner.{Owner}
+use Rattle.session_slots.specs.declared.values.Owner.TheVariants as owner
 use Rattle.job_plan.specs.Plans.{Plan, plan_of}
 use Rattle.job_plan.specs.Keeping.{keeping}
 use Rattle.job_plan.specs.Limits.{IsPlanWithin, IsPlanRefusal}

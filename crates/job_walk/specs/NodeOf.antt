@@ -1,6 +1,6 @@
 -- The node that files stand for, where they tell what they hold: one party of a job, by itself.
 use Rattle.std.specs.Prelude.{ℕ, Bool, true, false, List, [], ◌∷◌, map, Option, None, Some}
-use Rattle.party_set.specs.Names.{party_named}
+use Rattle.party_names.specs.Names.{party_named}
 use Rattle.job_plan.specs.Plans.{Plan, plan_of}
 use Rattle.job_plan.specs.Keeping.{keeping}
 use Rattle.job_file.specs.Forms.{JobForm, SessionForm}

@@ -11,7 +11,8 @@ ghost use Rattle.job_walk.specs.Seen.{text_view};
 use crate::Stop;
 use crate::stop::refusal;
 use group_text::read_group;
-use party_set::{Group, Names};
+use party_names::Names;
+use party_set::Group;
 use refusal_text::group_line;
 use std::alloc::Global;
 

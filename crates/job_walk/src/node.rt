@@ -1,7 +1,7 @@
 //! One party of a job, by itself.
 ghost use Rattle.std.specs.Prelude.{◌≡◌, ◌<◌, true, [], ◌∷◌, ◌++◌, Ok, IfOk, length};
 ghost use Rattle.outer_io.specs.Files.{FilesReading};
-ghost use Rattle.party_set.specs.Names.{party_named};
+ghost use Rattle.party_names.specs.Names.{party_named};
 ghost use Rattle.party_file.specs.Forms.{form_of, FitsPlan};
 ghost use Rattle.job_digest.specs.Digests.{HasFiles};
 ghost use Rattle.job_digest.specs.declared.JobDigest.{JobDigest};
@@ -29,7 +29,7 @@ use job_file::Job;
 use job_plan::Plan;
 use outer_io::{Files, Hosts};
 use party_file::PartyData;
-use party_set::Names;
+use party_names::Names;
 use refusal_text::name_line;
 use std::alloc::Global;
 

@@ -3,7 +3,7 @@ ghost use Rattle.std.specs.Prelude.{◌≡◌, MatchResult};
 
 use node_talk::NodeFault;
 use outer_io::Failed;
-use party_set::Names;
+use party_names::Names;
 use std::alloc::{AllocError, AllocFailed};
 
 /// Why a call stops before its end.

@@ -6,19 +6,20 @@ use Rattle.std.proofs.Math.Nat.{le-max_left, le-max_right, le-min, min-le_left, 
 use Rattle.list_laws.specs.Lists.{only_if, total}
 use Rattle.circuit_model.specs.Circuits.{is_product}
 use Rattle.circuit_model.specs.Netlists.{read_by}
-use Rattle.job_session.specs.declared.side.Side.{Side}
-use Rattle.job_session.specs.declared.side.Side.TheVariants.{First, Second}
-use Rattle.job_session.specs.Sessions.{Session, Slot, gate, is_prepared, mask_wire, operand, product_wire, session_slot, session_slots}
-use Rattle.job_session.specs.Sessions.Slot.{Input, At_gate, Output, Mask, Mask_product, Masked, Kept}
-use Rattle.job_session.specs.SlotNumbers.{first_of_gate, first_of_masks, mask_product_number, prepared_before, session_slot_number}
-use Rattle.job_session.specs.SoundSessions.{IsWired, Inside}
-use Rattle.job_session.specs.Counts.{prepared_products, products}
-use Rattle.job_session.specs.KeptWires.{greatest, sets_in, slot_sets}
-use Rattle.job_session.specs.Batches.{batch, batches, completes, is_join, reads_early, sets_early, slot_completes, waits_for}
-use Rattle.job_session.proofs.SessionSlots.{all_prepared, gate_rises, masks_before_product, more_before, none_before, none_prepared, number_within, one_more, product_before_inputs, slot_kinds, slot_there, slots_are_numbered}
+use Rattle.session_slots.specs.declared.side.Side.{Side}
+use Rattle.session_slots.specs.declared.side.Side.TheVariants.{First, Second}
+use Rattle.session_slots.specs.Sessions.{Session, Slot, gate, is_prepared, mask_wire, operand, product_wire, session_slot, session_slots}
+use Rattle.session_slots.specs.Sessions.Slot.{Input, At_gate, Output, Mask, Mask_product, Masked, Kept}
+use Rattle.session_slots.specs.SlotNumbers.{first_of_gate, first_of_masks, mask_product_number, prepared_before, session_slot_number}
+use Rattle.session_slots.specs.SoundSessions.{IsWired, Inside}
+use Rattle.session_slots.specs.Counts.{prepared_products, products}
+use Rattle.session_slots.specs.KeptWires.{greatest, sets_in, slot_sets}
+use Rattle.job_session.specs.Batches.{batch, batches, waits_for}
+use Rattle.session_slots.specs.EarlyWires.{completes, is_join, reads_early, sets_early, slot_completes}
+use Rattle.session_slots.proofs.SessionSlots.{all_prepared, gate_rises, masks_before_product, more_before, none_before, none_prepared, number_within, one_more, product_before_inputs, slot_kinds, slot_there, slots_are_numbered}
 use Rattle.job_session.proofs.BatchOrder.{batch_within, begins_waiting, rising}
-use Rattle.job_session.proofs.GateOrder.{operand_read}
-use Rattle.job_session.proofs.KeptRows.{one_wire}
+use Rattle.session_slots.proofs.GateOrder.{operand_read}
+use Rattle.session_slots.proofs.KeptRows.{one_wire}
 use Rattle.layer_laws.specs.Layers.{most, preparing_batches, product, products_to, layer, depth, JoinsLast, StandsByLayers}
 
 -- one of a list passes both tests

@@ -2,9 +2,9 @@
 use Rattle.std.specs.Prelude.{◌≡◌, ℕ, zero, suc, ◌+◌, ◌<◌, ◌≤◌, min, max, nat_eq, true, false, if◌then◌else◌, List, [], ◌∷◌, length}
 use Rattle.circuit_model.specs.Circuits.{is_product}
 use Rattle.circuit_model.specs.Netlists.{read_by}
-use Rattle.job_session.specs.Counts.{prepared_products}
-use Rattle.job_session.specs.KeptWires.{greatest}
-use Rattle.job_session.specs.Sessions.{Session, gate, is_prepared}
+use Rattle.session_slots.specs.Counts.{prepared_products}
+use Rattle.session_slots.specs.KeptWires.{greatest}
+use Rattle.session_slots.specs.Sessions.{Session, gate, is_prepared}
 
 -- the greatest number that f gives to one of these wires, and 0 where there is none
 abbrev pub most : (ℕ → ℕ) → List ℕ → ℕ

@@ -1,8 +1,8 @@
 //! The laws of circuits in layers.
 ghost use Rattle.std.specs.Prelude.{◌≡◌, ◌+◌, ◌≤◌, false, true};
-ghost use Rattle.job_session.specs.Sessions.{Session};
-ghost use Rattle.job_session.specs.SoundSessions.{IsWired};
-ghost use Rattle.job_session.specs.Counts.{prepared_products};
+ghost use Rattle.session_slots.specs.Sessions.{Session};
+ghost use Rattle.session_slots.specs.SoundSessions.{IsWired};
+ghost use Rattle.session_slots.specs.Counts.{prepared_products};
 ghost use Rattle.job_session.specs.Batches.{batches};
 ghost use Rattle.layer_laws.specs.Layers.{JoinsLast, StandsByLayers, depth, preparing_batches};
 

@@ -4,14 +4,14 @@ use Rattle.std.specs.Prelude.{slice_index}
 use Rattle.std.proofs.lemmas.Bool.{cases_lt, cases_order, cases_Bool}
 use Rattle.outer_io.specs.Files.{Told}
 use Rattle.party_set.specs.Parties.{Structure, Members, IsQ2, covers}
-use Rattle.party_set.specs.Names.{AreNames}
+use Rattle.party_names.specs.Names.{AreNames}
 use Rattle.group_formula.proofs.OneAnswer.{one_answer}
 use Rattle.expr_circuit.specs.declared.fault.ExprFault.{ExprFault}
 use Rattle.expr_circuit.specs.Circuits.{circuit}
 use Rattle.expr_circuit.proofs.OneAnswer.{one_answer as one_program_only}
 use Rattle.q2_test.specs.CoveringPairs.{IsFirstCovering}
 use Rattle.q2_test.proofs.Orders.{q2_from}
-use Rattle.job_session.specs.Sessions.{Session}
+use Rattle.session_slots.specs.Sessions.{Session}
 use Rattle.job_plan.specs.Plans.{Plan}
 use Rattle.job_plan.specs.Messages.{messages}
 use Rattle.job_plan.specs.Tallies.{tape_length}

@@ -14,7 +14,7 @@ use Rattle.list_laws.proofs.Totals.{total_eq}
 use Rattle.list_laws.proofs.FirstFaults.{or_fault-ok}
 use Rattle.list_laws.specs.Checks.{first_fault}
 use Rattle.party_set.specs.Parties.{Structure, Members, IsAntichain, IsQ2}
-use Rattle.party_set.specs.Names.{AreNames}
+use Rattle.party_names.specs.Names.{AreNames}
 use Rattle.circuit_model.specs.Netlists.{Netlist, IsCircuit}
 use Rattle.circuit_file.specs.CircuitFiles.{circuit_in}
 use Rattle.circuit_file.proofs.FileLaws.{file_grounded}
@@ -29,12 +29,12 @@ use Rattle.group_formula.proofs.Meaning.{sound, parties_below}
 use Rattle.group_formula.proofs.Monotonicity.{family_of}
 use Rattle.plan_faults.specs.declared.part_fault.PartFault.{PartFault}
 use Rattle.plan_faults.specs.Counts.{counts_fault}
-use Rattle.job_session.specs.Sessions.{Session, no_session, session_at}
-use Rattle.job_session.specs.declared.values.OutputValue.{OutputValue}
-use Rattle.job_session.specs.declared.values.Owner.{Owner}
-use Rattle.job_session.specs.Carries.{kept_from}
+use Rattle.session_slots.specs.Sessions.{Session, no_session, session_at}
+use Rattle.session_slots.specs.declared.values.OutputValue.{OutputValue}
+use Rattle.session_slots.specs.declared.values.Owner.{Owner}
+use Rattle.session_slots.specs.Carries.{kept_from}
 use Rattle.job_session.specs.Parts.{CarriesFit, carries_fault, session_of, part_fault, output_values}
-use Rattle.job_session.specs.SoundSessions.{IsSoundSession, IsWired}
+use Rattle.session_slots.specs.SoundSessions.{IsSoundSession, IsWired}
 use Rattle.job_session.proofs.Carries.{carries_fit}
 use Rattle.job_session.proofs.CircuitSessions.{sound_session, sound_with, counts_agree}
 use Rattle.job_plan.specs.Plans.{Plan, plan_of, words}

@@ -17,7 +17,7 @@ use node_talk::NodeFault;
 use node_text::write_node;
 use outer_io::{Files, Links, Net, NetRefusal, Sink, Spawner};
 use party_file::PartyData;
-use party_set::Names;
+use party_names::Names;
 use std::sync::Wait;
 
 /// What is asked of a node: to run the party of this name in the job of this folder.

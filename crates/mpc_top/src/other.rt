@@ -12,7 +12,7 @@ use job_plan::{Inputs, Plan};
 use job_walk::{Stop, read_file, refusal};
 use other_file::{OtherFault, read_other};
 use outer_io::Files;
-use party_set::Names;
+use party_names::Names;
 use refusal_text::other_line;
 use std::alloc::Global;
 

@@ -10,7 +10,7 @@ use job_plan::Plan;
 use job_walk::{Stop, read_party_file};
 use outer_io::Files;
 use party_file::PartyData;
-use party_set::Names;
+use party_names::Names;
 use std::alloc::Global;
 
 /// Reads the files of all parties.

@@ -14,7 +14,7 @@ use job_plan::{Inputs, Plan};
 use job_walk::Stop;
 use outer_io::{Files, Pace, Sink};
 use output_text::write_sample;
-use party_set::{Names, NamesFault, read_names};
+use party_names::{Names, NamesFault, read_names};
 use sample_maker::{Sample, make_sample};
 use std::alloc::{AllocError, Global};
 use std::thread::Threads;

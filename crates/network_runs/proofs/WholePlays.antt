@@ -8,7 +8,7 @@ use Rattle.std.proofs.lemmas.Bool.Decides.{nat_tests}
 use Rattle.std.proofs.lemmas.List.{append-nil, get_or_past}
 use Rattle.list_laws.specs.Lists.{listed}
 use Rattle.list_laws.proofs.JoinedLists.{length-listed, listed_at}
-use Rattle.job_session.specs.Sessions.{output_wire, readers}
+use Rattle.session_slots.specs.Sessions.{output_wire, readers}
 use Rattle.job_plan.specs.Plans.{reads, session}
 use Rattle.job_plan.specs.Messages.{messages}
 use Rattle.job_plan.specs.Numbers.{message, no_key}

@@ -1,7 +1,7 @@
 -- The runs of all parties of a world, over pipes between them.
 use Rattle.std.specs.Prelude.{◌≡◌, ◌≢◌, ℕ, ◌-◌, ◌<◌, nat_eq, ◌||◌, true, false, if◌then◌else◌, List, [], length, None, Some, Result, Ok, Err, IsOk}
 use Rattle.list_laws.specs.Lists.{listed}
-use Rattle.job_session.specs.Sessions.{readers, output_wire}
+use Rattle.session_slots.specs.Sessions.{readers, output_wire}
 use Rattle.job_plan.specs.Plans.{session, reads}
 use Rattle.job_plan.specs.Messages.{messages}
 use Rattle.job_plan.specs.Numbers.{message}

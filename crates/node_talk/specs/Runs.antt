@@ -2,7 +2,7 @@
 use Rattle.std.specs.Prelude.{◌≡◌, ◌≢◌, ◌⊎◌, ℕ, suc, ◌<◌, ◌^◌, true, List, [], ◌∷◌, length, slice_index_or, Option, None, Some, unwrap_or}
 use Rattle.std.specs.List.{AllByRecursion}
 use Rattle.list_laws.specs.Lists.{joined, only_if}
-use Rattle.job_session.specs.Sessions.{readers, output_wire}
+use Rattle.session_slots.specs.Sessions.{readers, output_wire}
 use Rattle.job_plan.specs.Plans.{Plan, session, reads}
 use Rattle.job_plan.specs.Messages.{messages}
 use Rattle.job_plan.specs.Numbers.{message}

@@ -1,7 +1,7 @@
 -- The line of each fault of a node's run.
 use Rattle.std.specs.Prelude.{ℕ, ◌+◌, ◌/◌, ◌%◌, nat_lt, if◌then◌else◌, List, [], ◌∷◌, ◌++◌, codes, decimal}
 use Rattle.std.specs.List.{flat_map}
-use Rattle.party_set.specs.Names.{name_at}
+use Rattle.party_names.specs.Names.{name_at}
 use Rattle.frame_code.specs.Frames.{shown}
 use Rattle.node_talk.specs.declared.fault.NodeFault.{NodeFault}
 use Rattle.node_talk.specs.declared.fault.NodeFault.TheVariants.{Link, Closed, BadFrame, OtherJob, NoThread}

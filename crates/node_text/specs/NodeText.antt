@@ -4,7 +4,7 @@ use Rattle.std.specs.Prelude.{ℕ, ◌+◌, Bool, List, [], ◌∷◌, ◌++◌,
 use Rattle.std.specs.Option.{unwrap_or}
 use Rattle.list_laws.specs.Lists.{joined, listed, only_if}
 use Rattle.party_set.specs.Parties.{has_party, party_mask}
-use Rattle.party_set.specs.Names.{name_at}
+use Rattle.party_names.specs.Names.{name_at}
 use Rattle.job_plan.specs.Plans.{Plan, session}
 use Rattle.job_plan.specs.Numbers.{message}
 use Rattle.job_plan.specs.declared.key.Key.{Key}

@@ -1,7 +1,7 @@
 //! The line of a fault.
 ghost use Rattle.outer_io.specs.Sink.{Writes};
 ghost use Rattle.outer_io.specs.Blocks.{Adds};
-ghost use Rattle.party_set.specs.Names.{name_at};
+ghost use Rattle.party_names.specs.Names.{name_at};
 ghost use Rattle.frame_code.specs.Frames.{shown};
 ghost use Rattle.node_text.specs.FaultLines.{fault_line, short_line, closed_line, frame_line, job_line, fault_head};
 
@@ -9,7 +9,7 @@ use crate::hex::gather_hex;
 use frame_code::{FrameBytes, HELLO_BYTES};
 use node_talk::NodeFault;
 use outer_io::{Blocks, Failed, Gather, Sink};
-use party_set::Names;
+use party_names::Names;
 use text_parts::gather_number;
 
 /// Writes the line of the fault that ended a node's run. The names are those of the parties.

@@ -14,7 +14,8 @@ use job_limits::MOST_WIRES;
 use job_plan::Plan;
 use node_run::NodeDone;
 use outer_io::{Blocks, Failed, Gather, Sink};
-use party_set::{MOST_PARTIES, Names};
+use party_names::Names;
+use party_set::MOST_PARTIES;
 use text_parts::gather_word;
 use view_text::{gather_out_head, is_read, value_of};
 

@@ -11,7 +11,8 @@ ghost use Rattle.party_set.specs.Parties.{party_mask};
 use job_plan::Plan;
 use node_run::NodeDone;
 use outer_io::Gather;
-use party_set::{Group, MOST_PARTIES, Names, group_of_mask, party_mask};
+use party_names::Names;
+use party_set::{Group, MOST_PARTIES, group_of_mask, party_mask};
 use view_text::{gather_message_line, gather_view_head, touches};
 
 /// Adds what party `me` kept of its own view: `view NAME`, and the line of each message that it sent or got, with the

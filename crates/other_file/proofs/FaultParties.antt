@@ -7,7 +7,7 @@ use Rattle.toml.specs.Data.{Members}
 use Rattle.toml_fields.specs.Fields.{has_field, is_misfit}
 use Rattle.toml_fields.specs.declared.kind.Kind.TheVariants as kind
 use Rattle.list_laws.specs.Checks.{first_fault}
-use Rattle.party_set.specs.Names.{name_at}
+use Rattle.party_names.specs.Names.{name_at}
 use Rattle.job_plan.specs.Plans.{Plan}
 use Rattle.party_file.specs.declared.fault.PartyFault.{PartyFault}
 use Rattle.other_file.specs.declared.fault.OtherFault.{OtherFault}

@@ -12,8 +12,8 @@ use Rattle.list_laws.specs.Lists.{total, listed}
 use Rattle.list_laws.specs.Checks.{first_fault}
 use Rattle.list_laws.proofs.FirstFaults.{none_failed, listed-passed}
 use Rattle.list_laws.proofs.JoinedLists.{length-listed, listed_at}
-use Rattle.party_set.specs.Names.{name_at}
-use Rattle.job_session.specs.Sessions.{owners}
+use Rattle.party_names.specs.Names.{name_at}
+use Rattle.session_slots.specs.Sessions.{owners}
 use Rattle.job_plan.specs.Plans.{Plan, session, gives}
 use Rattle.job_plan.specs.InputWords.{AreInputs}
 use Rattle.party_file.specs.Table.{input_checks, numbers_in}

@@ -8,7 +8,7 @@ use Rattle.toml_fields.specs.Keys.{least_unknown}
 use Rattle.toml_fields.specs.declared.kind.Kind.TheVariants as kind
 use Rattle.list_laws.specs.Lists.{listed}
 use Rattle.list_laws.specs.Checks.{◌answers◌, first_fault, or_fault}
-use Rattle.party_set.specs.Names.{name_at}
+use Rattle.party_names.specs.Names.{name_at}
 use Rattle.job_plan.specs.Plans.{Plan}
 use Rattle.party_file.specs.Table.{version_checks, input_checks, numbers_in}
 use Rattle.party_file.specs.declared.field.Field.TheVariants as field

@@ -7,7 +7,7 @@ ghost use Rattle.party_file.specs.declared.fault.PartyFault.TheVariants.{Memory}
 ghost use Rattle.other_file.specs.Table.{name_checks, kind_checks, inputs_in, file_checks};
 
 use party_file::{Field, PartyFault, check_version};
-use party_set::{NameText, Names};
+use party_names::{NameText, Names};
 use std::alloc::{AllocError, Global};
 use toml::Table;
 use toml_fields::{Kind, fields_at, has_field, is_misfit, least_unknown};

@@ -11,7 +11,7 @@ use crate::fault::{OtherFault, of_file};
 use crate::parties::read_parties;
 use job_plan::{Inputs, Plan};
 use party_file::PartyFault;
-use party_set::Names;
+use party_names::Names;
 use std::alloc::Global;
 use toml::Table;
 use toml_fields::document;

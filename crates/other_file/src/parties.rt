@@ -13,7 +13,7 @@ ghost use Rattle.other_file.specs.declared.fault.OtherFault.TheVariants.{Memory}
 use crate::fault::{OtherFault, of_party};
 use job_plan::{Inputs, Plan};
 use party_file::{PartyFault, read_inputs};
-use party_set::Names;
+use party_names::Names;
 use std::alloc::{AllocError, Global};
 use toml::{Table, Value};
 use toml_fields::{Kind, has_field, is_misfit, items_at};

@@ -4,7 +4,7 @@ use Rattle.list_laws.specs.Lists.{joined}
 use Rattle.job_plan.specs.declared.key.Key.{Key}
 use Rattle.share_world.specs.Worlds.{World, view}
 use Rattle.text_parts.specs.Parts.{words_text}
-use Rattle.party_set.specs.Names.{name_at}
+use Rattle.party_names.specs.Names.{name_at}
 use Rattle.output_text.specs.RunText.{seen_text}
 
 -- the name of party p, and the words of its tape

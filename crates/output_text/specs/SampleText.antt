@@ -1,7 +1,7 @@
 -- The text of a sample: its number, the counts of its plan, and the outputs of its run.
 use Rattle.std.specs.Prelude.{ℕ, List, ◌++◌, length, codes}
 use Rattle.list_laws.specs.Lists.{joined}
-use Rattle.job_session.specs.Counts.{products}
+use Rattle.session_slots.specs.Counts.{products}
 use Rattle.job_plan.specs.Plans.{session}
 use Rattle.job_plan.specs.Messages.{messages}
 use Rattle.share_world.specs.Worlds.{World}

@@ -1,7 +1,7 @@
 //! A run of which a text tells.
 use desk_workers::Done;
 use job_plan::Plan;
-use party_set::Names;
+use party_names::Names;
 
 /// A run that is over, with the names of its parties and its plan.
 #[derive(Clone, Copy)]

@@ -14,7 +14,8 @@ use crate::view::gather_view;
 use desk_workers::Done;
 use job_plan::Plan;
 use outer_io::{Blocks, Failed, Gather, Sink};
-use party_set::{Group, Names};
+use party_names::Names;
+use party_set::Group;
 use text_parts::gather_word;
 
 /// Writes two runs of a plan that are over: `first`, the outputs of the first and what a group sees of it, `second`,

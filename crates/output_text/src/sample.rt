@@ -12,7 +12,7 @@ use crate::run::gather_out;
 use desk_workers::Done;
 use job_plan::Plan;
 use outer_io::{Blocks, Failed, Gather, Sink};
-use party_set::Names;
+use party_names::Names;
 
 /// Writes the number of a sample whose run is over, how many products, messages and tape words of each party its plan
 /// has, and then its outputs as after a run. It takes no memory.

@@ -14,7 +14,8 @@ use crate::finished_run::FinishedRun;
 use desk_workers::Done;
 use job_plan::{Key, Plan};
 use outer_io::Gather;
-use party_set::{Group, Names};
+use party_names::Names;
+use party_set::Group;
 use view_text::{gather_message_line, gather_view_head, touches};
 
 /// Adds what a group sees of a run that is over: `view GROUP`, and then for each message that a member sends or

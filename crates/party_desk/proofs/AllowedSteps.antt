@@ -6,10 +6,10 @@ use mathlib.Core.Logic.{inl, inr}
 use Rattle.mpc_ring.specs.Differences.{difference}
 use Rattle.circuit_model.specs.Circuits.{set_at}
 use Rattle.circuit_model.proofs.SetAt.{set_here, set_there}
-use Rattle.job_session.specs.Sessions.{Slot, gate, kept_wire, operand, output_wire, mask_wire, product_wire}
-use Rattle.job_session.specs.Batches.{is_join}
+use Rattle.session_slots.specs.Sessions.{Slot, gate, kept_wire, operand, output_wire, mask_wire, product_wire}
+use Rattle.session_slots.specs.EarlyWires.{is_join}
 use Rattle.job_plan.specs.Plans.{Plan, least_held, session, slot}
-use Rattle.job_session.specs.Sessions.Slot.{Input, At_gate, Output, Mask, Mask_product, Masked, Kept}
+use Rattle.session_slots.specs.Sessions.Slot.{Input, At_gate, Output, Mask, Mask_product, Masked, Kept}
 use Rattle.message_board.specs.declared.cells.Cells.{Ghosts as Meaning}
 use Rattle.party_program.specs.declared.program.Instruction.{Instruction}
 use Rattle.party_program.specs.declared.program.Instruction.TheVariants.{Draw, Deal, Post, Take, Linear, Own, Sum, Open, Join, Deliver, End}

@@ -7,11 +7,11 @@ use Rattle.std.specs.List.{list_any}
 use mathlib.Core.Logic.{inl, inr}
 use Rattle.circuit_model.specs.Circuits.{set_at}
 use Rattle.secret_sharing.specs.Schemes.{Scheme, own_product}
-use Rattle.job_session.specs.Sessions.{Session, Slot, gate, is_prepared, mask_wire, product_in}
-use Rattle.job_session.specs.declared.side.Side.TheVariants.{First, Second}
+use Rattle.session_slots.specs.Sessions.{Session, Slot, gate, is_prepared, mask_wire, product_in}
+use Rattle.session_slots.specs.declared.side.Side.TheVariants.{First, Second}
 use Rattle.job_plan.specs.Plans.{Plan, least_held, session, slot}
-use Rattle.job_session.specs.Sessions.Slot.{Input, At_gate, Output, Mask, Mask_product, Masked, Kept}
-use Rattle.job_session.specs.KeptWires.{IsInOrder, reads_in}
+use Rattle.session_slots.specs.Sessions.Slot.{Input, At_gate, Output, Mask, Mask_product, Masked, Kept}
+use Rattle.session_slots.specs.KeptWires.{IsInOrder, reads_in}
 use Rattle.circuit_model.specs.Circuits.{is_product}
 use Rattle.circuit_model.specs.Netlists.{read_by}
 use Rattle.job_plan.specs.Sound.{IsSound}

@@ -5,9 +5,9 @@ use Rattle.std.proofs.lemmas.Bool.{cases_lt, false≢true}
 use Rattle.circuit_model.specs.Circuits.{is_product}
 use Rattle.circuit_model.specs.declared.gate.Gate.{Gate}
 use Rattle.job_session.specs.Batches.{IsBatch}
-use Rattle.job_session.specs.Sessions.{Session, Slot, owners, session_slot, session_slots, product_in}
-use Rattle.job_session.specs.Sessions.Slot.{Input, At_gate, Output, Mask, Mask_product, Masked, Kept}
-use Rattle.job_session.proofs.SessionSlots.{slot_cases}
+use Rattle.session_slots.specs.Sessions.{Session, Slot, owners, session_slot, session_slots, product_in}
+use Rattle.session_slots.specs.Sessions.Slot.{Input, At_gate, Output, Mask, Mask_product, Masked, Kept}
+use Rattle.session_slots.proofs.SessionSlots.{slot_cases}
 use Rattle.job_plan.specs.declared.pattern.Pattern.TheVariants.{Silent, Multiplied, Joined}
 use Rattle.job_plan.specs.Plans.{IsPlan, Plan, session, slot, slots}
 use Rattle.job_plan.specs.Numbers.{deals_before}

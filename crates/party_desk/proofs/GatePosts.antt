@@ -3,7 +3,7 @@ use Rattle.std.proofs.Common.{◌≡◌, ◌≢◌, ℕ, ◌+◌, ◌-◌, ◌<�
 use Rattle.std.specs.Prelude.{slice_index, slice_index_or}
 use Rattle.std.proofs.lemmas.Bool.{cases_lt}
 use Rattle.secret_sharing.specs.Schemes.{has_pair}
-use Rattle.job_session.specs.KeptWires.{sets_in}
+use Rattle.session_slots.specs.KeptWires.{sets_in}
 use Rattle.job_plan.specs.declared.pattern.Pattern.TheVariants.{Multiplied}
 use Rattle.job_plan.specs.Plans.{Plan, scheme, session, slot, slots}
 use Rattle.job_plan.specs.Numbers.{message}

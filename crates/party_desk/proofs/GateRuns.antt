@@ -2,10 +2,10 @@
 use Rattle.std.proofs.Common.{◌≡◌, ℕ, zero, suc, ◌+◌, ◌<◌, ◌≤◌, false, ◌&&◌, if◌then◌else◌, List, length, sym, ap, ◌∙◌, subst, arith}
 use Rattle.circuit_model.specs.Circuits.{is_product}
 use Rattle.circuit_model.specs.declared.gate.Gate.{Gate}
-use Rattle.job_session.specs.Sessions.{Session, owners, gate, is_prepared, session_slot, session_slots}
-use Rattle.job_session.specs.Sessions.Slot.{At_gate}
-use Rattle.job_session.specs.SlotNumbers.{first_of_gate, prepared_before, session_slot_number}
-use Rattle.job_session.proofs.SessionSlots.{number_within, slot_gate, direct_count, slot_there}
+use Rattle.session_slots.specs.Sessions.{Session, owners, gate, is_prepared, session_slot, session_slots}
+use Rattle.session_slots.specs.Sessions.Slot.{At_gate}
+use Rattle.session_slots.specs.SlotNumbers.{first_of_gate, prepared_before, session_slot_number}
+use Rattle.session_slots.proofs.SessionSlots.{number_within, slot_gate, direct_count, slot_there}
 use Rattle.party_desk.specs.Rows.{AreLinear, gate_in}
 use Rattle.party_desk.specs.Walks.{IsSlotOf}
 use Rattle.party_desk.proofs.GatePlaces.{never_prepared}

@@ -6,8 +6,8 @@ use Rattle.std.specs.Vec.{with_items}
 use Rattle.std.proofs.lemmas.List.{with_items_is}
 use Rattle.circuit_model.specs.Circuits.{is_product}
 use Rattle.circuit_model.specs.declared.gate.Gate.{Gate}
-use Rattle.job_session.specs.Sessions.{Session, gate}
-use Rattle.job_session.specs.Sessions.Slot.{At_gate}
+use Rattle.session_slots.specs.Sessions.{Session, gate}
+use Rattle.session_slots.specs.Sessions.Slot.{At_gate}
 use Rattle.job_plan.specs.Sound.{IsSound}
 use Rattle.job_plan.specs.declared.pattern.Pattern.TheVariants.{Multiplied}
 use Rattle.job_plan.specs.Patterns.{pattern_at}

@@ -1,12 +1,12 @@
 -- Wires of slots that have rows.
 use Rattle.std.proofs.Common.{◌≡◌, ℕ, ◌+◌, ◌<◌, true, length, refl, arith}
-use Rattle.job_session.specs.Sessions.{Session, Slot, gate, operand, owners, readers, output_wire, product_in, row_names, has_product}
-use Rattle.job_session.specs.Sessions.Slot.{Input, At_gate, Output, Mask, Mask_product, Masked, Kept}
-use Rattle.job_session.specs.declared.side.Side.{Side}
-use Rattle.job_session.specs.declared.side.Side.TheVariants.{First, Second}
-use Rattle.job_session.specs.SoundSessions.{Inside, IsWired}
-use Rattle.job_session.proofs.RowNames.{few_slots, mask_within, product_named, wires_named}
-use Rattle.job_session.proofs.SessionSlots.{slots_are_numbered}
+use Rattle.session_slots.specs.Sessions.{Session, Slot, gate, operand, owners, readers, output_wire, product_in, row_names, has_product}
+use Rattle.session_slots.specs.Sessions.Slot.{Input, At_gate, Output, Mask, Mask_product, Masked, Kept}
+use Rattle.session_slots.specs.declared.side.Side.{Side}
+use Rattle.session_slots.specs.declared.side.Side.TheVariants.{First, Second}
+use Rattle.session_slots.specs.SoundSessions.{Inside, IsWired}
+use Rattle.session_slots.proofs.RowNames.{few_slots, mask_within, product_named, wires_named}
+use Rattle.session_slots.proofs.SessionSlots.{slots_are_numbered}
 use Rattle.job_plan.specs.Plans.{Plan, session, slot, slots}
 use Rattle.job_plan.specs.Sound.{IsSound}
 use Rattle.party_program.specs.Proper.{IsSlot, Multiplies}

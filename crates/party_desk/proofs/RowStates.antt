@@ -6,9 +6,9 @@ use Rattle.circuit_model.specs.Circuits.{set_at}
 use Rattle.circuit_model.proofs.SetAt.{set_here, set_there}
 use Rattle.circuit_model.specs.declared.gate.Gate.{Gate}
 use Rattle.secret_sharing.specs.Schemes.{local}
-use Rattle.job_session.specs.Sessions.{Session, Slot, gate, product_in}
-use Rattle.job_session.specs.Sessions.Slot.{Input, At_gate, Output, Mask, Mask_product, Masked, Kept}
-use Rattle.job_session.specs.KeptWires.{sets_in}
+use Rattle.session_slots.specs.Sessions.{Session, Slot, gate, product_in}
+use Rattle.session_slots.specs.Sessions.Slot.{Input, At_gate, Output, Mask, Mask_product, Masked, Kept}
+use Rattle.session_slots.specs.KeptWires.{sets_in}
 use Rattle.job_plan.specs.Plans.{Plan, session}
 use Rattle.party_program.specs.Proper.{Multiplies}
 use Rattle.party_program.specs.States.{State, computed, dealt_as, dealt_in, posted, took_in}

@@ -13,11 +13,11 @@ use Rattle.circuit_model.proofs.SetAt.{set_here, set_there}
 use Rattle.circuit_model.specs.declared.gate.Gate.{Gate}
 use Rattle.secret_sharing.specs.Schemes.{Scheme, IsScheme, dealt, has_pair, own_product}
 use Rattle.secret_sharing.specs.Prepared.{joined_summand}
-use Rattle.job_session.specs.Sessions.{Session, Slot, gate, is_prepared, operand, output_wire, mask_wire, product_wire, product_in}
-use Rattle.job_session.specs.Sessions.Slot.{Input, At_gate, Output, Mask, Mask_product, Masked, Kept}
-use Rattle.job_session.specs.KeptWires.{is_read, reads_in, sets_in}
-use Rattle.job_session.specs.declared.side.Side.{Side}
-use Rattle.job_session.specs.declared.side.Side.TheVariants.{First, Second}
+use Rattle.session_slots.specs.Sessions.{Session, Slot, gate, is_prepared, operand, output_wire, mask_wire, product_wire, product_in}
+use Rattle.session_slots.specs.Sessions.Slot.{Input, At_gate, Output, Mask, Mask_product, Masked, Kept}
+use Rattle.session_slots.specs.KeptWires.{is_read, reads_in, sets_in}
+use Rattle.session_slots.specs.declared.side.Side.{Side}
+use Rattle.session_slots.specs.declared.side.Side.TheVariants.{First, Second}
 use Rattle.job_plan.specs.Plans.{IsPlan, Plan, is_holder, least_held, holder_of, scheme, session, slot}
 use Rattle.job_plan.proofs.PlanSchemes.{scheme_is}
 use Rattle.party_program.specs.declared.program.Instruction.{Instruction}

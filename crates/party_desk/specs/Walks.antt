@@ -3,8 +3,8 @@ use Rattle.std.specs.Prelude.{◌≡◌, ◌≢◌, ℕ, ◌+◌, ◌<◌, ◌�
 use Rattle.circuit_model.specs.declared.gate.Gate.{Gate}
 use Rattle.circuit_model.specs.Circuits.{is_product}
 use Rattle.job_session.specs.Batches.{IsBatch}
-use Rattle.job_session.specs.Sessions.{Session, owners, gate, session_slot, session_slots}
-use Rattle.job_session.specs.Sessions.Slot.{At_gate}
+use Rattle.session_slots.specs.Sessions.{Session, owners, gate, session_slot, session_slots}
+use Rattle.session_slots.specs.Sessions.Slot.{At_gate}
 use Rattle.job_plan.specs.declared.pattern.Pattern.{Pattern}
 use Rattle.job_plan.specs.declared.pattern.Pattern.TheVariants.{Multiplied, Silent}
 use Rattle.job_plan.specs.Plans.{Plan, scheme, session}

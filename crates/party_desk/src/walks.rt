@@ -2,8 +2,8 @@
 //! batch goes, and then tail after tail. Each kind has a loop of its own, in which little but words and summands is
 //! looked up.
 ghost use Rattle.std.specs.Prelude.{◌≡◌, ℕ, ◌+◌, ◌-◌, ◌<◌, ◌≤◌, length};
-ghost use Rattle.job_session.specs.Sessions.{session_slots};
-ghost use Rattle.job_session.specs.SoundSessions.{IsSoundSession};
+ghost use Rattle.session_slots.specs.Sessions.{session_slots};
+ghost use Rattle.session_slots.specs.SoundSessions.{IsSoundSession};
 ghost use Rattle.message_board.specs.Seats.{IsSeatOf};
 ghost use Rattle.party_program.specs.declared.half.Half.TheVariants.{Tail};
 ghost use Rattle.party_program.specs.ProgramPlaces.{InProduct};

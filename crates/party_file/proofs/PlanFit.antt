@@ -13,10 +13,10 @@ use Rattle.tape_words.specs.Cuts.{cut}
 use Rattle.tape_words.specs.Seeds.{seed_word}
 use Rattle.tape_words.proofs.SeedLists.{stream_words-inside}
 use Rattle.toml_fields.specs.Fields.{has_field, text_at, texts_at}
-use Rattle.job_session.specs.Sessions.{given_by, owners}
-use Rattle.job_session.specs.declared.source.Source.TheVariants.{Given}
+use Rattle.session_slots.specs.Sessions.{given_by, owners}
+use Rattle.session_slots.specs.declared.source.Source.TheVariants.{Given}
 use Rattle.job_plan.specs.Plans.{Plan, session, words, gives}
-use Rattle.job_session.specs.Counts.{owned}
+use Rattle.session_slots.specs.Counts.{owned}
 use Rattle.list_laws.proofs.Totals.{total_count}
 use Rattle.list_laws.specs.Checks.{◌answers◌, first_fault}
 use Rattle.party_file.specs.Table.{version_checks, name_checks, kind_checks, count_checks, session_checks, input_checks, random_checks, tape_checks, seed_checks, seed_in, party_checks, party_given, PartyForm, numbers_in, tapes_of, first_outside, out_of_ring, bad_words, word_counts}

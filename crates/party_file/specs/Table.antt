@@ -17,7 +17,7 @@ use Rattle.toml_fields.specs.Fields.{has_field, is_misfit, integer_at, text_at, 
 use Rattle.toml_fields.specs.Keys.{least_unknown}
 use Rattle.toml_fields.specs.declared.kind.Kind.TheVariants as kind
 use Rattle.job_plan.specs.Plans.{Plan, session, words}
-use Rattle.job_session.specs.Counts.{owned}
+use Rattle.session_slots.specs.Counts.{owned}
 use Rattle.list_laws.specs.Checks.{◌answers◌, first_fault, or_fault}
 use Rattle.party_file.specs.declared.field.Field.TheVariants as field
 use Rattle.party_file.specs.declared.fault.WordCause.{WordCause}

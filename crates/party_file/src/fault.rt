@@ -5,7 +5,7 @@ ghost use Rattle.party_file.specs.ToldFaults.{cause_text, of_field, told_party_f
 
 use crate::field::Field;
 use fault_table::{Entry, MOST_KEYS};
-use party_set::NameText;
+use party_names::NameText;
 use std::alloc::{AllocError, AllocFailed};
 
 /// What is wrong with a word.

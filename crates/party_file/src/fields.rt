@@ -7,7 +7,7 @@ ghost use Rattle.party_file.specs.declared.fault.PartyFault.TheVariants.{Memory}
 
 use crate::fault::PartyFault;
 use crate::field::Field;
-use party_set::NameText;
+use party_names::NameText;
 use std::alloc::Global;
 use toml::Table;
 use toml_fields::{Kind, has_field, integer_at, is_misfit, items_at, least_unknown};

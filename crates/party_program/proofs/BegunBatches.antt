@@ -2,7 +2,7 @@
 use Rattle.std.proofs.Common.{◌≡◌, ℕ, zero, suc, ◌<◌, ◌≤◌, true, false, nat_eq, nat_le, if◌then◌else◌, refl, sym, ◌∙◌, arith}
 use Rattle.std.proofs.lemmas.Bool.{cases_Bool, cond-true, cond-false, cond_both, le-leb, lt-leb, eq-eqb, ne_eqb, or_left, or_right, or_from}
 use mathlib.Core.Logic.{inl, inr}
-use Rattle.job_session.specs.Sessions.{Session, session_slots}
+use Rattle.session_slots.specs.Sessions.{Session, session_slots}
 use Rattle.job_session.specs.Batches.{waits, batch, is_last}
 use Rattle.job_session.proofs.BatchOrder.{next_begins, next_joins, batch_within}
 

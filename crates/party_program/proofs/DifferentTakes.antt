@@ -8,11 +8,11 @@ use Rattle.list_laws.specs.Lists.{joined, only_if}
 use Rattle.list_laws.proofs.JoinedLists.{at_append_right, every_range, every_weaker, joined_eq}
 use Rattle.party_set.specs.Parties.{has_party}
 use Rattle.circuit_model.specs.Circuits.{is_product}
-use Rattle.job_session.specs.declared.source.Source.{Source}
-use Rattle.job_session.specs.declared.source.Source.TheVariants.{Given, Earlier}
-use Rattle.job_session.specs.declared.values.KeptWire.{KeptWire}
-use Rattle.job_session.specs.Sessions.{Session, Slot, gate, is_direct, is_prepared, no_session, session_slots, slot_list, source}
-use Rattle.job_session.specs.Sessions.Slot.{Input, At_gate, Output, Mask, Mask_product, Masked, Kept}
+use Rattle.session_slots.specs.declared.source.Source.{Source}
+use Rattle.session_slots.specs.declared.source.Source.TheVariants.{Given, Earlier}
+use Rattle.session_slots.specs.declared.values.KeptWire.{KeptWire}
+use Rattle.session_slots.specs.Sessions.{Session, Slot, gate, is_direct, is_prepared, no_session, session_slots, slot_list, source}
+use Rattle.session_slots.specs.Sessions.Slot.{Input, At_gate, Output, Mask, Mask_product, Masked, Kept}
 use Rattle.job_session.specs.Batches.{batch, is_last}
 use Rattle.job_session.proofs.BatchOrder.{batch_within}
 use Rattle.job_plan.specs.declared.key.Key.{Key}

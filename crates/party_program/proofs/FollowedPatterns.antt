@@ -12,11 +12,11 @@ use Rattle.job_plan.specs.declared.key.Key.{Key}
 use Rattle.job_plan.specs.declared.pattern.Transfer.{Transfer}
 use Rattle.job_plan.specs.declared.pattern.Pattern.{Pattern}
 use Rattle.job_plan.specs.declared.pattern.Pattern.TheVariants.{Silent, Multiplied, Joined}
-use Rattle.job_session.specs.declared.source.Source.{Source}
-use Rattle.job_session.specs.declared.source.Source.TheVariants.{Given, Earlier}
-use Rattle.job_session.specs.Sessions.{Slot, gate, given_by, source}
+use Rattle.session_slots.specs.declared.source.Source.{Source}
+use Rattle.session_slots.specs.declared.source.Source.TheVariants.{Given, Earlier}
+use Rattle.session_slots.specs.Sessions.{Slot, gate, given_by, source}
 use Rattle.job_plan.specs.Plans.{IsPlan, Plan, keeping_slot, scheme, session, slot, slots, opens_to, least_held}
-use Rattle.job_session.specs.Sessions.Slot.{Input, At_gate, Output, Mask, Mask_product, Masked, Kept}
+use Rattle.session_slots.specs.Sessions.Slot.{Input, At_gate, Output, Mask, Mask_product, Masked, Kept}
 use Rattle.job_plan.specs.Numbers.{message, no_key, deals_before}
 use Rattle.job_plan.specs.Firsts.{count, first, numbers}
 use Rattle.job_plan.specs.Patterns.{input_pattern, named, transfers, pattern, pattern_at}

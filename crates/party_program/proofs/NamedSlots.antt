@@ -4,10 +4,10 @@ use Rattle.std.specs.Prelude.{Some}
 use Rattle.std.proofs.lemmas.List.{get_or_past}
 use Rattle.indexmap.specs.IndexMap.{IndexMap, get}
 use Rattle.circuit_model.specs.Circuits.{is_product}
-use Rattle.job_session.specs.declared.source.Source.{Source}
-use Rattle.job_session.specs.declared.source.Source.TheVariants.{Given, Earlier}
-use Rattle.job_session.specs.Sessions.{Slot, gate, readers, slot_list, source}
-use Rattle.job_session.specs.Sessions.Slot.{Input, At_gate, Output, Mask, Mask_product, Masked, Kept}
+use Rattle.session_slots.specs.declared.source.Source.{Source}
+use Rattle.session_slots.specs.declared.source.Source.TheVariants.{Given, Earlier}
+use Rattle.session_slots.specs.Sessions.{Slot, gate, readers, slot_list, source}
+use Rattle.session_slots.specs.Sessions.Slot.{Input, At_gate, Output, Mask, Mask_product, Masked, Kept}
 use Rattle.job_plan.specs.declared.pattern.Pattern.TheVariants.{Received}
 use Rattle.job_plan.specs.Plans.{IsPlan, Plan, keeping_slot, session, slot, slot_number, slots}
 use Rattle.job_plan.specs.Firsts.{count, first}

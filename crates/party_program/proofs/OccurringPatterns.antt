@@ -4,16 +4,16 @@ use Rattle.circuit_model.specs.Circuits.{is_product}
 use Rattle.secret_sharing.specs.Schemes.{has_pair}
 use Rattle.job_plan.specs.declared.pattern.Pattern.{Pattern}
 use Rattle.job_plan.specs.declared.pattern.Pattern.TheVariants.{Opened}
-use Rattle.job_session.specs.declared.source.Source.{Source}
-use Rattle.job_session.specs.declared.source.Source.TheVariants.{Given, Earlier}
-use Rattle.job_session.specs.Sessions.{Slot, gate, given_by, readers_of, source}
-use Rattle.job_session.specs.SlotNumbers.{first_of_gate, session_slot_number}
-use Rattle.job_session.specs.SoundSessions.{Inside}
+use Rattle.session_slots.specs.declared.source.Source.{Source}
+use Rattle.session_slots.specs.declared.source.Source.TheVariants.{Given, Earlier}
+use Rattle.session_slots.specs.Sessions.{Slot, gate, given_by, readers_of, source}
+use Rattle.session_slots.specs.SlotNumbers.{first_of_gate, session_slot_number}
+use Rattle.session_slots.specs.SoundSessions.{Inside}
 use Rattle.job_plan.specs.Plans.{Plan, scheme, session, slots, deals_in}
-use Rattle.job_session.specs.Sessions.Slot.{Input, At_gate, Output, Mask, Mask_product, Masked, Kept}
+use Rattle.session_slots.specs.Sessions.Slot.{Input, At_gate, Output, Mask, Mask_product, Masked, Kept}
 use Rattle.job_plan.specs.Patterns.{input_pattern, pattern, pattern_at, Occurs}
 use Rattle.job_plan.specs.Sound.{IsSound}
-use Rattle.job_session.proofs.SessionSlots.{slot_kinds}
+use Rattle.session_slots.proofs.SessionSlots.{slot_kinds}
 use Rattle.party_program.specs.declared.half.Half.{Half}
 use Rattle.party_program.specs.declared.step.Step.{Step}
 use Rattle.party_program.specs.declared.step_table.StepTable.{StepTable}

@@ -7,12 +7,12 @@ use Rattle.list_laws.proofs.Totals.{total_more}
 use Rattle.circuit_model.specs.Circuits.{is_product}
 use Rattle.circuit_model.specs.declared.gate.Gate.{Gate}
 use Rattle.secret_sharing.specs.Schemes.{has_pair}
-use Rattle.job_session.specs.declared.side.Side.TheVariants.{First, Second}
-use Rattle.job_session.specs.Sessions.{Session, Slot, gate, no_gate, is_prepared, session_slot}
-use Rattle.job_session.specs.Sessions.Slot.{At_gate, Mask, Mask_product, Masked}
-use Rattle.job_session.specs.SlotNumbers.{first_of_gate, first_of_masks, mask_product_number, prepared_before, session_slot_number}
-use Rattle.job_session.specs.SoundSessions.{Inside}
-use Rattle.job_session.proofs.SessionSlots.{number_within, slot_there}
+use Rattle.session_slots.specs.declared.side.Side.TheVariants.{First, Second}
+use Rattle.session_slots.specs.Sessions.{Session, Slot, gate, no_gate, is_prepared, session_slot}
+use Rattle.session_slots.specs.Sessions.Slot.{At_gate, Mask, Mask_product, Masked}
+use Rattle.session_slots.specs.SlotNumbers.{first_of_gate, first_of_masks, mask_product_number, prepared_before, session_slot_number}
+use Rattle.session_slots.specs.SoundSessions.{Inside}
+use Rattle.session_slots.proofs.SessionSlots.{number_within, slot_there}
 use Rattle.job_plan.specs.declared.pattern.Pattern.{Pattern}
 use Rattle.job_plan.specs.declared.pattern.Pattern.TheVariants.{Silent, Multiplied, HandedOut, OpenedToAll, Joined}
 use Rattle.job_plan.specs.Plans.{scheme, slots, deals_in}

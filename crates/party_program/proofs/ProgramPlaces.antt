@@ -7,7 +7,7 @@ use mathlib.Core.Logic.{inl, inr}
 use Rattle.list_laws.specs.Lists.{total, joined, only_if}
 use Rattle.list_laws.proofs.Totals.{total_more}
 use Rattle.list_laws.proofs.JoinedLists.{length-joined, joined_place, total_within}
-use Rattle.job_session.specs.Sessions.{Session, session_slots}
+use Rattle.session_slots.specs.Sessions.{Session, session_slots}
 use Rattle.job_session.specs.Batches.{batch, is_last, IsBatch}
 use Rattle.job_session.proofs.BatchOrder.{batch_within}
 use Rattle.party_program.proofs.BegunBatches.{begun, begun_is, begun_end}

@@ -5,9 +5,9 @@ use Rattle.indexmap.specs.IndexMap.{IndexMap, get}
 use Rattle.list_laws.specs.Lists.{total, listed}
 use Rattle.job_plan.specs.declared.pattern.Pattern.{Pattern}
 use Rattle.job_plan.specs.declared.pattern.Pattern.TheVariants.{Silent, Dealt, Multiplied, Opened, HandedOut, OpenedToAll, Joined, Held, Received}
-use Rattle.job_session.specs.declared.source.Source.TheVariants.{Earlier}
-use Rattle.job_session.specs.Sessions.{Session, owners, readers, session_slots, source}
-use Rattle.job_session.specs.Sessions.Slot.{Input}
+use Rattle.session_slots.specs.declared.source.Source.TheVariants.{Earlier}
+use Rattle.session_slots.specs.Sessions.{Session, owners, readers, session_slots, source}
+use Rattle.session_slots.specs.Sessions.Slot.{Input}
 use Rattle.job_session.specs.Batches.{IsInBatch}
 use Rattle.secret_sharing.specs.Schemes.{has_pair}
 use Rattle.job_plan.specs.Plans.{Plan, deals_in, keeping_slot, scheme, session, slot, slot_number, slots}

@@ -2,8 +2,8 @@
 ghost use Rattle.std.specs.Prelude.{◌≡◌, ℕ, ◌+◌, ◌*◌, ◌<◌, ◌≤◌, true, false, IfOk, length};
 ghost use Rattle.secret_sharing.specs.Schemes.{has_pair};
 ghost use Rattle.job_plan.specs.Plans as plans;
-ghost use Rattle.job_session.specs.Sessions.{owners};
-ghost use Rattle.job_session.specs.SlotNumbers.{first_input, first_of_gate, prepared_before};
+ghost use Rattle.session_slots.specs.Sessions.{owners};
+ghost use Rattle.session_slots.specs.SlotNumbers.{first_input, first_of_gate, prepared_before};
 ghost use Rattle.job_plan.specs.Plans.{scheme, slots};
 ghost use Rattle.party_program.specs.PartySteps.{deals_in_pattern};
 ghost use Rattle.party_program.specs.ProgramPlaces.{AreDealsTo, AreSessionSteps, HasNoneBeside, instructions_before, session_of};

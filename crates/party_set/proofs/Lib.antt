@@ -1,3 +1,2 @@
 pub mod EveryNumber
 pub mod Masks
-pub mod NameFaults

@@ -1,9 +1,9 @@
 -- That a session is prepared before any input: its masks and the products of masks stand before its inputs, and no
 -- input changes their words.
 use Rattle.std.specs.Prelude.{◌≡◌, ℕ, ◌<◌, Bool, true, false, nat_lt}
-use Rattle.job_session.specs.Sessions.{Session, Slot, session_slot, session_slots}
-use Rattle.job_session.specs.Sessions.Slot.{Mask, Mask_product}
-use Rattle.job_session.specs.SlotNumbers.{first_input}
+use Rattle.session_slots.specs.Sessions.{Session, Slot, session_slot, session_slots}
+use Rattle.session_slots.specs.Sessions.Slot.{Mask, Mask_product}
+use Rattle.session_slots.specs.SlotNumbers.{first_input}
 use Rattle.job_plan.specs.InputWords.{InputLists}
 use Rattle.job_plan.specs.Plans.{Plan, session}
 use Rattle.job_plan.specs.declared.key.Key.{Key}

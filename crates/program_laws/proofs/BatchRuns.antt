@@ -3,7 +3,7 @@ use Rattle.std.proofs.Common.{◌≡◌, ℕ, zero, suc, ◌+◌, ◌-◌, ◌<�
 use Rattle.std.proofs.lemmas.Bool.{cases_Bool}
 use mathlib.Core.Logic.{inl, inr}
 use Rattle.list_laws.specs.Lists.{joined, only_if}
-use Rattle.job_session.specs.Sessions.{Session, session_slots}
+use Rattle.session_slots.specs.Sessions.{Session, session_slots}
 use Rattle.job_session.specs.Batches.{batch, is_last}
 use Rattle.party_program.specs.declared.program.Instruction.{Instruction}
 use Rattle.job_session.proofs.BatchOrder.{batch_within}

@@ -6,9 +6,9 @@ use mathlib.Core.Logic.{inl}
 use Rattle.list_laws.specs.Lists.{joined}
 use Rattle.list_laws.proofs.JoinedLists.{every_joined, every_only_if, every_both}
 use Rattle.secret_sharing.specs.Schemes.{Run, summands}
-use Rattle.job_session.specs.declared.source.Source.TheVariants.{Earlier}
-use Rattle.job_session.specs.Sessions.{Session, Slot, given_by, kept_wire, owners, source}
-use Rattle.job_session.specs.Sessions.Slot.{Input, Kept}
+use Rattle.session_slots.specs.declared.source.Source.TheVariants.{Earlier}
+use Rattle.session_slots.specs.Sessions.{Session, Slot, given_by, kept_wire, owners, source}
+use Rattle.session_slots.specs.Sessions.Slot.{Input, Kept}
 use Rattle.job_plan.specs.Plans.{Plan, IsPlan, is_holder, keeping_slot, session, slot, slots}
 use Rattle.job_plan.specs.declared.key.Key.{Key}
 use Rattle.job_plan.specs.Firsts.{first, numbers}

@@ -8,11 +8,11 @@ use Rattle.list_laws.specs.Lists.{joined}
 use Rattle.circuit_model.proofs.SetAt.{set_here, set_there}
 use Rattle.secret_sharing.specs.Schemes.{Run, dealt}
 use Rattle.secret_sharing.proofs.SummandSums.{dealt_eq}
-use Rattle.job_session.specs.declared.side.Side.{Side}
-use Rattle.job_session.specs.declared.source.Source.{Source}
-use Rattle.job_session.specs.declared.source.Source.TheVariants.{Given as GivenBy}
-use Rattle.job_session.specs.Sessions.{Session, Slot, given_by, owners, source, mask_wire}
-use Rattle.job_session.specs.Sessions.Slot.{Input, Mask}
+use Rattle.session_slots.specs.declared.side.Side.{Side}
+use Rattle.session_slots.specs.declared.source.Source.{Source}
+use Rattle.session_slots.specs.declared.source.Source.TheVariants.{Given as GivenBy}
+use Rattle.session_slots.specs.Sessions.{Session, Slot, given_by, owners, source, mask_wire}
+use Rattle.session_slots.specs.Sessions.Slot.{Input, Mask}
 use Rattle.job_plan.specs.Plans.{Plan, scheme, session, slot, slots, is_holder, given_before, holder_of, least_held, deals_in, words_in, words_before}
 use Rattle.job_plan.specs.declared.key.Key.{Key}
 use Rattle.job_plan.specs.Firsts.{numbers}

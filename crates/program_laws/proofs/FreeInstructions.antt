@@ -11,12 +11,12 @@ use Rattle.circuit_model.proofs.SetAt.{set_here, set_there}
 use Rattle.circuit_model.proofs.SetWires.{funext}
 use Rattle.secret_sharing.specs.Schemes.{dealt, own_product, local, has_pair}
 use Rattle.secret_sharing.specs.Prepared.{masked, joined_summand}
-use Rattle.job_session.specs.Sessions.{Session, Slot, gate, is_prepared, kept_wire, operand, output_wire, mask_wire, product_wire, product_in}
-use Rattle.job_session.specs.Sessions.Slot.{Input, At_gate, Output, Mask, Mask_product, Masked, Kept}
-use Rattle.job_session.specs.declared.side.Side.{Side}
-use Rattle.job_session.specs.declared.side.Side.TheVariants.{First, Second}
-use Rattle.job_session.specs.KeptWires.{sets_in, reads_in}
-use Rattle.job_session.specs.Batches.{completes, reads_early}
+use Rattle.session_slots.specs.Sessions.{Session, Slot, gate, is_prepared, kept_wire, operand, output_wire, mask_wire, product_wire, product_in}
+use Rattle.session_slots.specs.Sessions.Slot.{Input, At_gate, Output, Mask, Mask_product, Masked, Kept}
+use Rattle.session_slots.specs.declared.side.Side.{Side}
+use Rattle.session_slots.specs.declared.side.Side.TheVariants.{First, Second}
+use Rattle.session_slots.specs.KeptWires.{sets_in, reads_in}
+use Rattle.session_slots.specs.EarlyWires.{completes, reads_early}
 use Rattle.job_plan.specs.Plans.{Plan, holder_of, least_held, scheme, session, slot}
 use Rattle.job_plan.specs.declared.key.Key.{Key}
 use Rattle.share_world.specs.Worlds.{World}

@@ -7,11 +7,12 @@ use Rattle.list_laws.specs.Lists.{joined, only_if}
 use Rattle.list_laws.proofs.JoinedLists.{every_append, every_weaker, every_both}
 use Rattle.circuit_model.specs.Circuits.{is_product}
 use Rattle.circuit_model.specs.Netlists.{read_by}
-use Rattle.job_session.specs.Sessions.{Session, Slot, gate, is_prepared, mask_wire, product_wire, product_in, session_slots}
-use Rattle.job_session.specs.Sessions.Slot.{Input, At_gate, Output, Mask, Mask_product, Masked, Kept}
-use Rattle.job_session.specs.declared.side.Side.TheVariants.{First, Second}
-use Rattle.job_session.specs.KeptWires.{IsInOrder, slot_sets, slot_reads, sets_in, reads_in}
-use Rattle.job_session.specs.Batches.{completes, slot_completes, is_join, sets_early, reads_early, waits_for, batch}
+use Rattle.session_slots.specs.Sessions.{Session, Slot, gate, is_prepared, mask_wire, product_wire, product_in, session_slots}
+use Rattle.session_slots.specs.Sessions.Slot.{Input, At_gate, Output, Mask, Mask_product, Masked, Kept}
+use Rattle.session_slots.specs.declared.side.Side.TheVariants.{First, Second}
+use Rattle.session_slots.specs.KeptWires.{IsInOrder, slot_sets, slot_reads, sets_in, reads_in}
+use Rattle.session_slots.specs.EarlyWires.{completes, slot_completes, is_join, sets_early, reads_early}
+use Rattle.job_session.specs.Batches.{waits_for, batch}
 use Rattle.job_plan.specs.Plans.{Plan, session, slot, slots}
 use Rattle.job_plan.specs.declared.key.Key.{Key}
 use Rattle.job_plan.specs.Firsts.{numbers}

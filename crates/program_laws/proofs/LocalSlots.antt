@@ -9,17 +9,17 @@ use Rattle.list_laws.specs.Lists.{joined}
 use Rattle.circuit_model.specs.Circuits.{is_product}
 use Rattle.circuit_model.proofs.SetAt.{set_here, set_there}
 use Rattle.secret_sharing.specs.Schemes.{Run, summands}
-use Rattle.job_session.specs.declared.side.Side.{Side}
-use Rattle.job_session.specs.declared.side.Side.TheVariants.{First, Second}
-use Rattle.job_session.specs.declared.source.Source.{Source}
-use Rattle.job_session.specs.declared.source.Source.TheVariants.{Given as GivenBy, Earlier}
-use Rattle.job_session.specs.declared.values.KeptWire.{KeptWire}
-use Rattle.job_session.specs.Sessions.{Session, Slot, given_by, owners, readers, source, gate, kept_wire, no_kept, output_wire, is_prepared, mask_wire, product_wire}
-use Rattle.job_session.specs.Sessions.Slot.{Input, At_gate, Output, Mask, Mask_product, Masked, Kept}
-use Rattle.job_session.specs.SlotNumbers.{first_input, first_of_gate}
-use Rattle.job_session.specs.KeptWires.{sets_in, slot_sets}
-use Rattle.job_session.specs.SoundSessions.{Inside, IsWired}
-use Rattle.job_session.proofs.SessionSlots.{masks_before_product, product_before_inputs, slot_kinds, slots_are_numbered}
+use Rattle.session_slots.specs.declared.side.Side.{Side}
+use Rattle.session_slots.specs.declared.side.Side.TheVariants.{First, Second}
+use Rattle.session_slots.specs.declared.source.Source.{Source}
+use Rattle.session_slots.specs.declared.source.Source.TheVariants.{Given as GivenBy, Earlier}
+use Rattle.session_slots.specs.declared.values.KeptWire.{KeptWire}
+use Rattle.session_slots.specs.Sessions.{Session, Slot, given_by, owners, readers, source, gate, kept_wire, no_kept, output_wire, is_prepared, mask_wire, product_wire}
+use Rattle.session_slots.specs.Sessions.Slot.{Input, At_gate, Output, Mask, Mask_product, Masked, Kept}
+use Rattle.session_slots.specs.SlotNumbers.{first_input, first_of_gate}
+use Rattle.session_slots.specs.KeptWires.{sets_in, slot_sets}
+use Rattle.session_slots.specs.SoundSessions.{Inside, IsWired}
+use Rattle.session_slots.proofs.SessionSlots.{masks_before_product, product_before_inputs, slot_kinds, slots_are_numbered}
 use Rattle.job_plan.specs.Plans.{Plan, session, slot, slots, slot_number, is_holder, gives, given_before, opens_to}
 use Rattle.job_plan.specs.declared.key.Key.{Key}
 use Rattle.share_world.specs.Worlds.{World}

@@ -1,6 +1,6 @@
 -- Each message goes from one party to another, or is of a kept wire and stays with its party.
 use Rattle.std.proofs.Common.{◌<◌, ℕ, length}
-use Rattle.job_session.specs.Sessions.{Slot}
+use Rattle.session_slots.specs.Sessions.{Slot}
 use Rattle.job_plan.specs.Plans.{Plan, IsPlan}
 use Rattle.job_plan.specs.declared.key.Key.{Key}
 use Rattle.job_plan.specs.Messages.{messages}

@@ -4,8 +4,8 @@ use Rattle.std.proofs.lemmas.Bool.{cases_eq, cases_lt}
 use Rattle.std.proofs.lemmas.List.{get_or_past}
 use mathlib.Core.Logic.{inl, inr}
 use Rattle.circuit_model.proofs.SetAt.{set_here, set_there}
-use Rattle.job_session.specs.Sessions.{Slot, output_wire}
-use Rattle.job_session.specs.Sessions.Slot.{Input, At_gate, Mask, Mask_product, Masked}
+use Rattle.session_slots.specs.Sessions.{Slot, output_wire}
+use Rattle.session_slots.specs.Sessions.Slot.{Input, At_gate, Mask, Mask_product, Masked}
 use Rattle.job_plan.specs.Plans.{Plan, session, reads, slot}
 use Rattle.job_plan.specs.Sound.{IsSound}
 use Rattle.job_plan.specs.declared.key.Key.{Key}

@@ -13,9 +13,9 @@ use Rattle.mpc_ring.proofs.Totals.{total_same}
 use Rattle.circuit_model.proofs.SetAt.{set_here, set_there}
 use Rattle.secret_sharing.specs.Schemes.{Run, summands}
 use Rattle.secret_sharing.specs.Prepared.{masked}
-use Rattle.job_session.specs.declared.side.Side.{Side}
-use Rattle.job_session.specs.Sessions.{Session, Slot, gate, operand, output_wire, mask_wire}
-use Rattle.job_session.specs.Sessions.Slot.{Output, Masked}
+use Rattle.session_slots.specs.declared.side.Side.{Side}
+use Rattle.session_slots.specs.Sessions.{Session, Slot, gate, operand, output_wire, mask_wire}
+use Rattle.session_slots.specs.Sessions.Slot.{Output, Masked}
 use Rattle.job_plan.specs.Plans.{Plan, scheme, session, slot, slots, is_holder, holder_of, opens_to, words_in, words_before}
 use Rattle.job_plan.specs.declared.key.Key.{Key}
 use Rattle.job_plan.specs.Firsts.{numbers}

@@ -13,9 +13,9 @@ use Rattle.circuit_model.proofs.SetAt.{set_here, set_there}
 use Rattle.secret_sharing.specs.Schemes.{Run, dealt, own_product, has_pair, local, product_summand, gate_summands, summands}
 use Rattle.secret_sharing.specs.Prepared.{joined_summand}
 use Rattle.secret_sharing.proofs.SummandSums.{dealt_eq}
-use Rattle.job_session.specs.declared.side.Side.TheVariants.{First, Second}
-use Rattle.job_session.specs.Sessions.{Session, Slot, gate, is_direct, is_prepared, mask_wire, product_wire, product_in}
-use Rattle.job_session.specs.Sessions.Slot.{At_gate, Mask_product}
+use Rattle.session_slots.specs.declared.side.Side.TheVariants.{First, Second}
+use Rattle.session_slots.specs.Sessions.{Session, Slot, gate, is_direct, is_prepared, mask_wire, product_wire, product_in}
+use Rattle.session_slots.specs.Sessions.Slot.{At_gate, Mask_product}
 use Rattle.job_plan.specs.Plans.{Plan, scheme, session, slot, slots, is_holder, deals_in, words_in, words_before}
 use Rattle.job_plan.specs.declared.key.Key.{Key}
 use Rattle.job_plan.specs.Firsts.{numbers}

@@ -7,13 +7,13 @@ use Rattle.std.proofs.lemmas.Nat.{pow_pos}
 use mathlib.Core.Logic.{inl, inr}
 use Rattle.list_laws.specs.Lists.{total}
 use Rattle.list_laws.proofs.JoinedLists.{total_within}
-use Rattle.job_session.specs.Sessions.{Slot, owners}
+use Rattle.session_slots.specs.Sessions.{Slot, owners}
 use Rattle.job_plan.specs.Plans.{Plan, session, slot, slots, deals_in, least_held, words, gives, words_in, words_before, input_count}
-use Rattle.job_session.specs.Sessions.Slot.{Input, At_gate, Output, Mask, Mask_product, Masked, Kept}
+use Rattle.session_slots.specs.Sessions.Slot.{Input, At_gate, Output, Mask, Mask_product, Masked, Kept}
 use Rattle.job_plan.specs.Sound.{IsSound}
 use Rattle.job_plan.specs.declared.key.Key.{Key}
-use Rattle.job_session.specs.SoundSessions.{Inside}
-use Rattle.job_session.proofs.SessionSlots.{slots_are_numbered}
+use Rattle.session_slots.specs.SoundSessions.{Inside}
+use Rattle.session_slots.proofs.SessionSlots.{slots_are_numbered}
 use Rattle.share_world.specs.Worlds.{World}
 use Rattle.party_program.specs.declared.program.Instruction.{Instruction}
 use Rattle.party_program.specs.declared.program.Instruction.TheVariants.{Draw, Deal, Post, Take, Linear, Own, Sum, Open, Join, Deliver, End}

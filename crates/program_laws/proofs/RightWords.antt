@@ -5,11 +5,11 @@ use Rattle.std.specs.List.{AllByRecursion}
 use Rattle.list_laws.proofs.JoinedLists.{at_joined}
 use Rattle.secret_sharing.specs.Schemes.{summands}
 use mathlib.Core.Logic.{inl, inr}
-use Rattle.job_session.specs.Carries.{kept_place}
-use Rattle.job_session.specs.Sessions.{Session, Slot, readers, output_wire}
-use Rattle.job_session.specs.Sessions.Slot.{Output, Kept}
-use Rattle.job_session.specs.SoundSessions.{Inside}
-use Rattle.job_session.proofs.SessionSlots.{slot_there, number_within, slot_count}
+use Rattle.session_slots.specs.Carries.{kept_place}
+use Rattle.session_slots.specs.Sessions.{Session, Slot, readers, output_wire}
+use Rattle.session_slots.specs.Sessions.Slot.{Output, Kept}
+use Rattle.session_slots.specs.SoundSessions.{Inside}
+use Rattle.session_slots.proofs.SessionSlots.{slot_there, number_within, slot_count}
 use Rattle.job_plan.specs.Plans.{Plan, IsPlan, session, slots, slot_number, holder_of, reads}
 use Rattle.job_plan.specs.declared.key.Key.{Key}
 use Rattle.job_plan.specs.Messages.{messages, slot_messages}

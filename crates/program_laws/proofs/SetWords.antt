@@ -9,24 +9,25 @@ use Rattle.list_laws.specs.Lists.{only_if}
 use Rattle.list_laws.proofs.JoinedLists.{total_within}
 use Rattle.circuit_model.specs.Circuits.{is_product}
 use Rattle.secret_sharing.specs.Schemes.{has_pair}
-use Rattle.job_session.specs.declared.source.Source.{Source}
-use Rattle.job_session.specs.declared.source.Source.TheVariants.{Given, Earlier}
-use Rattle.job_session.specs.Sessions.{Session, Slot, given_by, readers, source, gate, is_direct, is_prepared, mask_wire, product_wire, product_in, session_slots}
-use Rattle.job_session.specs.Sessions.Slot.{Input, At_gate, Output, Mask, Mask_product, Masked, Kept}
-use Rattle.job_session.specs.declared.side.Side.{Side}
-use Rattle.job_session.specs.declared.side.Side.TheVariants.{First, Second}
-use Rattle.job_session.specs.KeptWires.{IsInOrder, IsRowTable, is_read, slot_sets, slot_reads, sets_in}
-use Rattle.job_session.specs.SlotNumbers.{first_of_gate, session_slot_number, SlotsAreNumbered}
-use Rattle.job_session.specs.SoundSessions.{Inside}
-use Rattle.job_session.proofs.KeptRows.{some_found, some_at, sets_one}
-use Rattle.job_session.proofs.SessionSlots.{slots_are_numbered}
+use Rattle.session_slots.specs.declared.source.Source.{Source}
+use Rattle.session_slots.specs.declared.source.Source.TheVariants.{Given, Earlier}
+use Rattle.session_slots.specs.Sessions.{Session, Slot, given_by, readers, source, gate, is_direct, is_prepared, mask_wire, product_wire, product_in, session_slots}
+use Rattle.session_slots.specs.Sessions.Slot.{Input, At_gate, Output, Mask, Mask_product, Masked, Kept}
+use Rattle.session_slots.specs.declared.side.Side.{Side}
+use Rattle.session_slots.specs.declared.side.Side.TheVariants.{First, Second}
+use Rattle.session_slots.specs.KeptWires.{IsInOrder, IsRowTable, is_read, slot_sets, slot_reads, sets_in}
+use Rattle.session_slots.specs.SlotNumbers.{first_of_gate, session_slot_number, SlotsAreNumbered}
+use Rattle.session_slots.specs.SoundSessions.{Inside}
+use Rattle.session_slots.proofs.KeptRows.{some_found, some_at, sets_one}
+use Rattle.session_slots.proofs.SessionSlots.{slots_are_numbered}
 use Rattle.job_plan.specs.Plans.{Plan, scheme, session, slot, slots, is_holder, holder_of, least_held, words_in, deals_in}
 use Rattle.job_plan.specs.Firsts.{numbers}
 use Rattle.job_plan.specs.Messages.{slot_messages, input_messages}
 use Rattle.job_plan.specs.Numbers.{message, deals_before}
 use Rattle.job_plan.specs.Sound.{IsSound}
 use Rattle.job_plan.proofs.SlotMessages.{keys_are, every_filter}
-use Rattle.job_session.specs.Batches.{batch, completes, slot_completes, is_join, sets_early, reads_early}
+use Rattle.job_session.specs.Batches.{batch}
+use Rattle.session_slots.specs.EarlyWires.{completes, slot_completes, is_join, sets_early, reads_early}
 use Rattle.party_program.specs.declared.program.Instruction.{Instruction}
 use Rattle.party_program.specs.declared.program.Instruction.TheVariants.{Draw, Deal, Post, Take, Linear, Own, Sum, Open, Join, Deliver, End}
 use Rattle.party_program.specs.Programs.{program, at, to, take_of, input_taken, opening, closing, posts, taken, taken_in, takes}

@@ -5,9 +5,9 @@ use Rattle.std.proofs.lemmas.Bool.{cases_eq, cond-true, cond-false, eq-eqb, ne_e
 use Rattle.std.proofs.Math.Nat.{mod-add-mod}
 use mathlib.Core.Logic.{inl, inr}
 use Rattle.circuit_model.specs.Circuits.{set_at}
-use Rattle.job_session.specs.Sessions.{Slot}
+use Rattle.session_slots.specs.Sessions.{Slot}
 use Rattle.job_plan.specs.Plans.{Plan}
-use Rattle.job_session.specs.Sessions.Slot.{Input, Mask}
+use Rattle.session_slots.specs.Sessions.Slot.{Input, Mask}
 use Rattle.job_plan.specs.Numbers.{message}
 use Rattle.party_program.specs.Programs.{take_of}
 use Rattle.party_program.specs.States.{Given, State, next, after_all, took_in, with_summand, taking_slot}

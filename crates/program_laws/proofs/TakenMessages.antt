@@ -6,15 +6,15 @@ use Rattle.std.proofs.lemmas.Bool.{cases_lt, false≢true, eqb-true}
 use Rattle.std.proofs.lemmas.List.{get_or_past}
 use mathlib.Core.Logic.{inl, inr}
 use Rattle.list_laws.proofs.JoinedLists.{every_weaker}
-use Rattle.job_session.specs.declared.source.Source.{Source}
-use Rattle.job_session.specs.declared.source.Source.TheVariants.{Given, Earlier}
-use Rattle.job_session.specs.declared.values.KeptWire.{KeptWire}
-use Rattle.job_session.specs.Sessions.{Slot, carries, no_kept, no_session, session_slots, source}
-use Rattle.job_session.specs.Sessions.Slot.{Input, At_gate, Output, Mask, Mask_product, Masked, Kept}
-use Rattle.job_session.specs.Carries.{IsKeptAt, kept_place}
-use Rattle.job_session.specs.SoundSessions.{Inside}
+use Rattle.session_slots.specs.declared.source.Source.{Source}
+use Rattle.session_slots.specs.declared.source.Source.TheVariants.{Given, Earlier}
+use Rattle.session_slots.specs.declared.values.KeptWire.{KeptWire}
+use Rattle.session_slots.specs.Sessions.{Slot, carries, no_kept, no_session, session_slots, source}
+use Rattle.session_slots.specs.Sessions.Slot.{Input, At_gate, Output, Mask, Mask_product, Masked, Kept}
+use Rattle.session_slots.specs.Carries.{IsKeptAt, kept_place}
+use Rattle.session_slots.specs.SoundSessions.{Inside}
 use Rattle.job_session.proofs.Carries.{kept_have_places}
-use Rattle.job_session.proofs.SessionSlots.{slots_are_numbered}
+use Rattle.session_slots.proofs.SessionSlots.{slots_are_numbered}
 use Rattle.job_plan.specs.Plans.{Plan, IsPlan, keeping_slot, session, slot, slot_number, slots}
 use Rattle.job_plan.specs.Firsts.{count, numbers}
 use Rattle.job_plan.specs.Messages.{messages, slot_messages, input_messages}

@@ -5,11 +5,11 @@ use Rattle.std.proofs.lemmas.Bool.{and_parts, both_ways, eq-eqb, false≢true}
 use mathlib.Core.Logic.{inl, inr}
 use Rattle.circuit_model.specs.Circuits.{is_product}
 use Rattle.secret_sharing.specs.Schemes.{has_pair}
-use Rattle.job_session.specs.Sessions.{Session, Slot, given_by, gate, is_direct, is_prepared, kept_wire, operand, output_wire, mask_wire, product_wire, product_in}
-use Rattle.job_session.specs.Sessions.Slot.{Input, At_gate, Output, Mask, Mask_product, Masked, Kept}
-use Rattle.job_session.specs.KeptWires.{is_read, slot_sets, slot_reads, sets_in, reads_in}
-use Rattle.job_session.specs.Batches.{completes, slot_completes, is_join}
-use Rattle.job_session.proofs.KeptRows.{sets_one}
+use Rattle.session_slots.specs.Sessions.{Session, Slot, given_by, gate, is_direct, is_prepared, kept_wire, operand, output_wire, mask_wire, product_wire, product_in}
+use Rattle.session_slots.specs.Sessions.Slot.{Input, At_gate, Output, Mask, Mask_product, Masked, Kept}
+use Rattle.session_slots.specs.KeptWires.{is_read, slot_sets, slot_reads, sets_in, reads_in}
+use Rattle.session_slots.specs.EarlyWires.{completes, slot_completes, is_join}
+use Rattle.session_slots.proofs.KeptRows.{sets_one}
 use Rattle.job_plan.specs.Plans.{Plan, IsPlan, scheme, session, slot, slots, is_holder, holder_of, deals_in}
 use Rattle.job_plan.specs.declared.key.Key.{Key}
 use Rattle.job_plan.specs.Numbers.{message}

@@ -1,7 +1,7 @@
 -- What one party has of a world.
 use Rattle.std.specs.Prelude.{◌≡◌, ℕ, ◌<◌, ◌^◌, if◌then◌else◌, [], length, slice_index, slice_index_or}
 use Rattle.list_laws.specs.Lists.{total}
-use Rattle.job_session.specs.Sessions.{owners}
+use Rattle.session_slots.specs.Sessions.{owners}
 use Rattle.job_plan.specs.Plans.{session, gives}
 use Rattle.job_plan.specs.InputWords.{given}
 use Rattle.job_plan.specs.Sound.{IsSound}

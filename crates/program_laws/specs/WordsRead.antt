@@ -3,9 +3,9 @@ use Rattle.std.specs.Prelude.{◌≡◌, ◌≢◌, ℕ, ◌+◌, ◌<◌, ◌�
 use Rattle.std.specs.List.{list_any}
 use Rattle.circuit_model.specs.declared.gate.Gate.{Gate}
 use Rattle.secret_sharing.specs.Schemes.{has_pair}
-use Rattle.job_session.specs.Sessions.{Session, Slot, gate, kept_wire, operand, output_wire, mask_wire, product_wire, product_in}
-use Rattle.job_session.specs.Sessions.Slot.{Input, At_gate, Output, Mask, Mask_product, Masked, Kept}
-use Rattle.job_session.specs.KeptWires.{is_read, reads_in}
+use Rattle.session_slots.specs.Sessions.{Session, Slot, gate, kept_wire, operand, output_wire, mask_wire, product_wire, product_in}
+use Rattle.session_slots.specs.Sessions.Slot.{Input, At_gate, Output, Mask, Mask_product, Masked, Kept}
+use Rattle.session_slots.specs.KeptWires.{is_read, reads_in}
 use Rattle.job_plan.specs.Plans.{Plan, is_holder, holder_of, scheme, session, slot}
 use Rattle.party_program.specs.declared.program.Instruction.{Instruction}
 use Rattle.party_program.specs.declared.program.Instruction.TheVariants.{Draw, Deal, Post, Take, Linear, Own, Sum, Open, Join, Deliver}

@@ -6,7 +6,7 @@ ghost use Rattle.refusal_text.specs.Lines.{head, refusal_line, key_head, keys_te
 
 use crate::masked::push_masked;
 use fault_table::{Entry, EntryKey, KeyValue};
-use party_set::Names;
+use party_names::Names;
 use std::alloc::{AllocError, Global};
 use text_parts::{push_number, push_signed, push_text};
 

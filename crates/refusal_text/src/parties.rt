@@ -5,7 +5,7 @@ ghost use Rattle.refusal_text.specs.Lines.{party_line, other_line};
 use crate::line::{file_key, refusal_line};
 use other_file::OtherFault;
 use party_file::PartyFault;
-use party_set::Names;
+use party_names::Names;
 use std::alloc::{AllocError, Global};
 
 /// The line of a fault of a party's file.

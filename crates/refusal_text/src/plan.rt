@@ -3,7 +3,7 @@ ghost use Rattle.std.specs.Prelude.{◌≡◌, IfOk};
 ghost use Rattle.refusal_text.specs.Lines.{plan_line, session_line};
 
 use crate::line::{number_key, refusal_line};
-use party_set::Names;
+use party_names::Names;
 use plan_faults::{PartFault, PlanFault};
 use std::alloc::{AllocError, Global};
 

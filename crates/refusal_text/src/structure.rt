@@ -6,7 +6,8 @@ use crate::line::refusal_line;
 use fault_table::Entry;
 use group_formula::FormulaFault;
 use group_text::GroupFault;
-use party_set::{Group, Names};
+use party_names::Names;
+use party_set::Group;
 use std::alloc::{AllocError, Global};
 use text_parts::push_group;
 

@@ -3,7 +3,7 @@ ghost use Rattle.std.specs.Prelude.{◌≡◌, IfOk};
 ghost use Rattle.refusal_text.specs.Lines.{pair_line, view_line};
 
 use crate::line::refusal_line;
-use party_set::Names;
+use party_names::Names;
 use std::alloc::{AllocError, Global};
 use tape_map::MapFault;
 use view_check::CheckFault;

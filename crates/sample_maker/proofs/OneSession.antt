@@ -1,7 +1,7 @@
 -- A list of one session, which carries nothing.
 use Rattle.std.proofs.Common.{zero, suc, [], ◌∷◌, arith}
 use Rattle.job_session.specs.Parts.{CarriesFit}
-use Rattle.job_session.specs.Sessions.{Session}
+use Rattle.session_slots.specs.Sessions.{Session}
 use Rattle.job_plan.specs.Keeping.{AllFit}
 
 pub fit_one : (x : Session) → CarriesFit [] x → AllFit (x ∷ [])

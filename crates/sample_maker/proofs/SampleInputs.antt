@@ -2,7 +2,7 @@
 use Rattle.std.proofs.Common.{◌≡◌, ℕ, zero, suc, ◌^◌, ◌<◌, ◌≤◌, if◌then◌else◌, [], ◌∷◌, length, refl, arith}
 use Rattle.std.specs.Prelude.{slice_index, slice_index_or}
 use Rattle.list_laws.specs.Lists.{total}
-use Rattle.job_session.specs.Sessions.{owners}
+use Rattle.session_slots.specs.Sessions.{owners}
 use Rattle.job_plan.specs.InputWords.{AreInputs, given}
 use Rattle.job_plan.specs.Plans.{gives, session}
 use Rattle.sample_maker.specs.Samples.{sample_inputs, sample_plan, sample_word}

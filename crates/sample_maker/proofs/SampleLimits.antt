@@ -6,9 +6,9 @@ use Rattle.list_laws.proofs.JoinedLists.{length-listed}
 use Rattle.circuit_model.specs.declared.gate.Gate.{Gate}
 use Rattle.circuit_model.specs.Circuits.{is_product}
 use Rattle.secret_sharing.specs.Schemes.{has_pair}
-use Rattle.job_session.specs.Counts.{owned, products}
-use Rattle.job_session.specs.Sessions.{owners, source}
-use Rattle.job_session.specs.declared.source.Source.TheVariants.{Given}
+use Rattle.session_slots.specs.Counts.{owned, products}
+use Rattle.session_slots.specs.Sessions.{owners, source}
+use Rattle.session_slots.specs.declared.source.Source.TheVariants.{Given}
 use Rattle.job_plan.specs.Plans.{Plan, scheme, session, least_held}
 use Rattle.job_plan.specs.Messages.{messages}
 use Rattle.job_plan.specs.Numbers.{deals}

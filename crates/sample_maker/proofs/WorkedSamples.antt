@@ -1,7 +1,7 @@
 -- The small samples, by computation.
 use Rattle.std.proofs.Common.{refl}
-use Rattle.job_session.specs.Sessions.{slot_list}
-use Rattle.job_session.specs.KeptWires.{is_kept, kept, live}
+use Rattle.session_slots.specs.Sessions.{slot_list}
+use Rattle.session_slots.specs.KeptWires.{is_kept, kept, live}
 use Rattle.sample_maker.specs.Worked.{FiveIsWorked, OneIsWorked}
 
 pub one_is : OneIsWorked

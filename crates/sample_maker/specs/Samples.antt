@@ -6,8 +6,8 @@ use Rattle.circuit_model.specs.declared.gate.Gate.{Gate}
 use Rattle.circuit_model.specs.declared.gate.Operation.{Operation}
 use Rattle.circuit_model.specs.declared.gate.Operation.TheVariants.{Mul, Add, Sub, Neg}
 use Rattle.circuit_model.specs.Netlists.{arity}
-use Rattle.job_session.specs.declared.values.Owner.TheVariants.{Party}
-use Rattle.job_session.specs.Sessions.{Session}
+use Rattle.session_slots.specs.declared.values.Owner.TheVariants.{Party}
+use Rattle.session_slots.specs.Sessions.{Session}
 use Rattle.job_plan.specs.Multiply.{three_parties}
 use Rattle.job_plan.specs.Plans.{Plan, plan_of, words}
 use Rattle.tape_words.specs.Seeds.{seed_word}

@@ -1,8 +1,8 @@
 -- Small samples, worked by hand.
 use Rattle.std.specs.Prelude.{◌≡◌, ℕ, ◌+◌, ◌-◌, ◌^◌, List, [], ◌∷◌, length}
 use Rattle.list_laws.specs.Lists.{listed}
-use Rattle.job_session.specs.Counts.{products}
-use Rattle.job_session.specs.KeptWires.{live}
+use Rattle.session_slots.specs.Counts.{products}
+use Rattle.session_slots.specs.KeptWires.{live}
 use Rattle.job_plan.specs.Plans.{words}
 use Rattle.job_plan.specs.Messages.{messages}
 use Rattle.share_world.specs.Worlds.{plain}

@@ -3,10 +3,10 @@ use Rattle.std.proofs.Common.{◌≡◌, ℕ, zero, suc, ◌<◌, nat_eq, [], le
 use Rattle.std.specs.Prelude.{slice_index_or}
 use Rattle.std.proofs.lemmas.Bool.{cases_eq, cases_lt, cond-true, cond-false, eq-eqb, ne_eqb}
 use Rattle.std.proofs.lemmas.List.{get_or_past}
-use Rattle.job_session.specs.declared.source.Source.TheVariants.{Given, Earlier}
-use Rattle.job_session.specs.declared.values.KeptWire.{KeptWire}
-use Rattle.job_session.specs.Sessions.{Session, owners, source, no_session, no_kept, kept_wire, output_wire}
-use Rattle.job_session.specs.Carries.{kept_from, kept_place}
+use Rattle.session_slots.specs.declared.source.Source.TheVariants.{Given, Earlier}
+use Rattle.session_slots.specs.declared.values.KeptWire.{KeptWire}
+use Rattle.session_slots.specs.Sessions.{Session, owners, source, no_session, no_kept, kept_wire, output_wire}
+use Rattle.session_slots.specs.Carries.{kept_from, kept_place}
 use Rattle.job_session.proofs.Carries.{kept_have_places}
 use Rattle.job_plan.specs.Plans.{Plan, session, KeepsCarried}
 use Rattle.share_world.specs.Worlds.{World, carried_wire, summands_before, end_summands, values_before, plain}

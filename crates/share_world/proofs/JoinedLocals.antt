@@ -3,12 +3,12 @@ use Rattle.std.proofs.Common.{◌≡◌, ℕ, zero, suc, ◌<◌, ◌≤◌, tru
 use Rattle.std.specs.List.{AllByRecursion}
 use Rattle.std.proofs.lemmas.Bool.{cases_eq}
 use Rattle.list_laws.proofs.JoinedLists.{at_joined}
-use Rattle.job_session.specs.declared.source.Source.TheVariants.{Earlier}
-use Rattle.job_session.specs.Sessions.{Slot, source}
-use Rattle.job_session.specs.Sessions.Slot.{Kept}
-use Rattle.job_session.specs.Carries.{kept_place}
-use Rattle.job_session.specs.SoundSessions.{Inside}
-use Rattle.job_session.proofs.SessionSlots.{slot_there, number_within}
+use Rattle.session_slots.specs.declared.source.Source.TheVariants.{Earlier}
+use Rattle.session_slots.specs.Sessions.{Slot, source}
+use Rattle.session_slots.specs.Sessions.Slot.{Kept}
+use Rattle.session_slots.specs.Carries.{kept_place}
+use Rattle.session_slots.specs.SoundSessions.{Inside}
+use Rattle.session_slots.proofs.SessionSlots.{slot_there, number_within}
 use Rattle.job_plan.specs.Plans.{session, slots, slot_number, is_holder, IsPlan}
 use Rattle.job_plan.specs.declared.key.Key.{Key}
 use Rattle.job_plan.specs.Messages.{messages, slot_messages}

@@ -9,16 +9,16 @@ use Rattle.circuit_model.specs.Circuits.{is_product}
 use Rattle.secret_sharing.specs.Schemes.{dealt, own_product, own_value, summands}
 use Rattle.secret_sharing.specs.Prepared.{masked, sum_of, joined_summand}
 use Rattle.secret_sharing.proofs.Agreement.{own_same, gate_agrees, gates_agree, product_agrees}
-use Rattle.job_session.specs.declared.side.Side.{Side}
-use Rattle.job_session.specs.declared.side.Side.TheVariants.{First, Second}
-use Rattle.job_session.specs.declared.source.Source.{Source}
-use Rattle.job_session.specs.declared.source.Source.TheVariants.{Given, Earlier}
-use Rattle.job_session.specs.Sessions.{Session, Slot, owners, source, gate, operand}
-use Rattle.job_session.specs.Sessions.Slot.{Input, At_gate, Mask, Mask_product, Masked, Kept}
-use Rattle.job_session.specs.Carries.{kept_place}
-use Rattle.job_session.specs.SoundSessions.{Inside}
-use Rattle.job_session.specs.SlotNumbers.{first_of_gate}
-use Rattle.job_session.proofs.SessionSlots.{slot_there, product_within}
+use Rattle.session_slots.specs.declared.side.Side.{Side}
+use Rattle.session_slots.specs.declared.side.Side.TheVariants.{First, Second}
+use Rattle.session_slots.specs.declared.source.Source.{Source}
+use Rattle.session_slots.specs.declared.source.Source.TheVariants.{Given, Earlier}
+use Rattle.session_slots.specs.Sessions.{Session, Slot, owners, source, gate, operand}
+use Rattle.session_slots.specs.Sessions.Slot.{Input, At_gate, Mask, Mask_product, Masked, Kept}
+use Rattle.session_slots.specs.Carries.{kept_place}
+use Rattle.session_slots.specs.SoundSessions.{Inside}
+use Rattle.session_slots.specs.SlotNumbers.{first_of_gate}
+use Rattle.session_slots.proofs.SessionSlots.{slot_there, product_within}
 use Rattle.job_plan.specs.declared.key.Key.{Key}
 use Rattle.job_plan.specs.Plans.{Plan, scheme, session, is_holder, holder_of, slot_number, IsPlan, CarriesEarlier}
 use Rattle.job_plan.proofs.PlanSchemes.{duty_is}

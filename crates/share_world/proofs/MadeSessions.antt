@@ -12,14 +12,14 @@ use Rattle.circuit_model.specs.declared.gate.Operation.{Operation}
 use Rattle.circuit_model.specs.declared.gate.Operation.TheVariants.{Add, Sub, Neg, Mul, Xor, And, Inv, Eq, Eqw}
 use Rattle.circuit_model.specs.Circuits.{values}
 use Rattle.circuit_model.specs.Netlists.{Netlist, IsCircuit, arity, inputs_read, no_gate, is_set, input_wires, gate as gate_of}
-use Rattle.job_session.specs.declared.source.Source.{Source}
-use Rattle.job_session.specs.declared.source.Source.TheVariants.{Given, Earlier}
-use Rattle.job_session.specs.declared.values.Owner.{Owner}
-use Rattle.job_session.specs.declared.values.KeptWire.{KeptWire}
-use Rattle.job_session.specs.Sessions.{Session, gate, owners, source}
+use Rattle.session_slots.specs.declared.source.Source.{Source}
+use Rattle.session_slots.specs.declared.source.Source.TheVariants.{Given, Earlier}
+use Rattle.session_slots.specs.declared.values.Owner.{Owner}
+use Rattle.session_slots.specs.declared.values.KeptWire.{KeptWire}
+use Rattle.session_slots.specs.Sessions.{Session, gate, owners, source}
 use Rattle.job_plan.specs.Plans.{session, CarriesEarlier}
 use Rattle.job_session.specs.Parts.{session_of}
-use Rattle.job_session.proofs.ValueWires.{owners_long}
+use Rattle.job_session.proofs.ValueCounts.{owners_long}
 use Rattle.share_world.specs.Worlds.{World, source_value, first_values, values_before, plain, carried_wire}
 use Rattle.share_world.specs.Solutions.{GatesInOrder, SetBefore, reads_first, reads_second}
 use Rattle.share_world.specs.Made.{made_of, MadeHasValues}

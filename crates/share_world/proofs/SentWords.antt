@@ -3,10 +3,10 @@ use Rattle.std.proofs.Common.{◌≡◌, ℕ, ◌<◌, true, length, refl, sym, 
 use Rattle.std.specs.List.{AllByRecursion}
 use Rattle.list_laws.proofs.JoinedLists.{every_joined}
 use Rattle.secret_sharing.specs.Schemes.{dealt, summands}
-use Rattle.job_session.specs.Sessions.{Session, Slot, output_wire, kept_wire}
-use Rattle.job_session.specs.Sessions.Slot.{Input, At_gate, Output, Mask, Mask_product, Masked, Kept}
-use Rattle.job_session.specs.SoundSessions.{Inside}
-use Rattle.job_session.proofs.SessionSlots.{slot_there, slot_kinds}
+use Rattle.session_slots.specs.Sessions.{Session, Slot, output_wire, kept_wire}
+use Rattle.session_slots.specs.Sessions.Slot.{Input, At_gate, Output, Mask, Mask_product, Masked, Kept}
+use Rattle.session_slots.specs.SoundSessions.{Inside}
+use Rattle.session_slots.proofs.SessionSlots.{slot_there, slot_kinds}
 use Rattle.job_plan.specs.declared.key.Key.{Key}
 use Rattle.job_plan.specs.Messages.{messages, slot_messages}
 use Rattle.job_plan.specs.Numbers.{no_key}

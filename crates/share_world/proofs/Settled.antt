@@ -7,17 +7,17 @@ use Rattle.circuit_model.specs.declared.gate.Operation.{Operation}
 use Rattle.circuit_model.specs.declared.gate.Operation.TheVariants.{Add, Sub, Neg, Mul, Xor, And, Inv, Eq, Eqw}
 use Rattle.circuit_model.specs.Circuits.{is_product}
 use Rattle.circuit_model.specs.Netlists.{arity, inputs_read, read_by}
-use Rattle.job_session.specs.declared.side.Side.{Side}
-use Rattle.job_session.specs.declared.side.Side.TheVariants.{First, Second}
-use Rattle.job_session.specs.Sessions.{Session, Slot, owners, gate, is_prepared, operand, mask_wire, session_slots}
-use Rattle.job_session.specs.Sessions.Slot.{Input, At_gate, Output, Mask, Mask_product, Masked, Kept}
-use Rattle.job_session.specs.SoundSessions.{Inside, IsWired}
-use Rattle.job_session.specs.SlotNumbers.{first_of_gate, session_slot_number}
-use Rattle.job_session.specs.KeptWires.{slot_sets, sets_in, reads_in}
+use Rattle.session_slots.specs.declared.side.Side.{Side}
+use Rattle.session_slots.specs.declared.side.Side.TheVariants.{First, Second}
+use Rattle.session_slots.specs.Sessions.{Session, Slot, owners, gate, is_prepared, operand, mask_wire, session_slots}
+use Rattle.session_slots.specs.Sessions.Slot.{Input, At_gate, Output, Mask, Mask_product, Masked, Kept}
+use Rattle.session_slots.specs.SoundSessions.{Inside, IsWired}
+use Rattle.session_slots.specs.SlotNumbers.{first_of_gate, session_slot_number}
+use Rattle.session_slots.specs.KeptWires.{slot_sets, sets_in, reads_in}
 use Rattle.job_plan.specs.Plans.{Plan, session}
 use Rattle.job_plan.specs.Sound.{IsSound}
 use Rattle.list_laws.proofs.Tests.{or_true}
-use Rattle.job_session.proofs.SessionSlots.{slot_there, slot_kinds, number_within}
+use Rattle.session_slots.proofs.SessionSlots.{slot_there, slot_kinds, number_within}
 use Rattle.share_world.specs.Solutions.{SetBefore, GatesInOrder, IsOrdered, reads_first, reads_second}
 use Rattle.share_world.proofs.SlotOrder.{input_first, masked_first, gate_first, earlier_gate}
 

@@ -3,13 +3,13 @@ use Rattle.std.proofs.Common.{◌≡◌, ℕ, ◌+◌, ◌*◌, ◌<◌, ◌≤�
 use Rattle.std.proofs.lemmas.Bool.{cases_Bool, cases_lt, cases_eq}
 use mathlib.Core.Logic.{inl, inr}
 use Rattle.list_laws.proofs.JoinedLists.{total_within}
-use Rattle.job_session.specs.declared.side.Side.{Side}
-use Rattle.job_session.specs.declared.side.Side.TheVariants.{First, Second}
-use Rattle.job_session.specs.Sessions.{Session, owners, is_prepared}
-use Rattle.job_session.specs.Sessions.Slot.{Input, At_gate, Mask, Mask_product, Masked}
-use Rattle.job_session.specs.SoundSessions.{Inside}
-use Rattle.job_session.specs.SlotNumbers.{prepared_before, first_of_gate, session_slot_number}
-use Rattle.job_session.proofs.SessionSlots.{masks_before_product, product_before_inputs}
+use Rattle.session_slots.specs.declared.side.Side.{Side}
+use Rattle.session_slots.specs.declared.side.Side.TheVariants.{First, Second}
+use Rattle.session_slots.specs.Sessions.{Session, owners, is_prepared}
+use Rattle.session_slots.specs.Sessions.Slot.{Input, At_gate, Mask, Mask_product, Masked}
+use Rattle.session_slots.specs.SoundSessions.{Inside}
+use Rattle.session_slots.specs.SlotNumbers.{prepared_before, first_of_gate, session_slot_number}
+use Rattle.session_slots.proofs.SessionSlots.{masks_before_product, product_before_inputs}
 
 module _ (x : Session) where
   abbrev one : ℕ → ℕ

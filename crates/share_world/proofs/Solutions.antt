@@ -7,13 +7,13 @@ use Rattle.circuit_model.specs.Circuits.{is_product}
 use Rattle.circuit_model.specs.declared.gate.Operation.TheVariants.{Add, Sub, Neg, Mul, Xor, And, Inv, Eq, Eqw}
 use Rattle.secret_sharing.specs.Schemes.{dealt, local, own_product, own_value, has_pair, gate_summands, summands}
 use Rattle.secret_sharing.specs.Prepared.{masked, sum_of, prepared_summand}
-use Rattle.job_session.specs.declared.side.Side.TheVariants.{First, Second}
-use Rattle.job_session.specs.declared.source.Source.{Source}
-use Rattle.job_session.specs.declared.source.Source.TheVariants.{Given, Earlier}
-use Rattle.job_session.specs.Sessions.{owners, source, given_by, Session, Slot, gate, is_direct, is_prepared}
-use Rattle.job_session.specs.SoundSessions.{Inside}
+use Rattle.session_slots.specs.declared.side.Side.TheVariants.{First, Second}
+use Rattle.session_slots.specs.declared.source.Source.{Source}
+use Rattle.session_slots.specs.declared.source.Source.TheVariants.{Given, Earlier}
+use Rattle.session_slots.specs.Sessions.{owners, source, given_by, Session, Slot, gate, is_direct, is_prepared}
+use Rattle.session_slots.specs.SoundSessions.{Inside}
 use Rattle.job_plan.specs.Plans.{scheme, session, deals_in, CarriesEarlier}
-use Rattle.job_session.specs.Sessions.Slot.{Input, At_gate, Output, Mask, Mask_product, Masked, Kept}
+use Rattle.session_slots.specs.Sessions.Slot.{Input, At_gate, Output, Mask, Mask_product, Masked, Kept}
 use Rattle.share_world.specs.Worlds.{World, run_of, source_summands, summands_before, end_summands, source_value, values_before, value_before, carried_wire, tape_word, mask, mask_product, product_of, deal_of}
 use Rattle.share_world.specs.Solutions.{reads_first, reads_second, SetBefore, GatesInOrder, IsOrdered, dealt_sum, SummandsSolve, AllSolve, AreSummands, OnlySolution, IsSolution, CarriedArePlain}
 use Rattle.list_laws.specs.Lists.{total}

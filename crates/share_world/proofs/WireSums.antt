@@ -6,11 +6,11 @@ use Rattle.std.proofs.Math.Nat.{mod-eq_of_lt}
 use mathlib.Core.Logic.{inl, inr}
 use Rattle.secret_sharing.specs.Schemes.{IsRun, AddUp, dealt, summands}
 use Rattle.secret_sharing.specs.Prepared.{sum_of}
-use Rattle.job_session.specs.declared.side.Side.TheVariants.{First, Second}
-use Rattle.job_session.specs.declared.source.Source.{Source}
-use Rattle.job_session.specs.declared.source.Source.TheVariants.{Given, Earlier}
-use Rattle.job_session.specs.Sessions.{owners, source, Slot}
-use Rattle.job_session.specs.Sessions.Slot.{Input, At_gate, Mask_product}
+use Rattle.session_slots.specs.declared.side.Side.TheVariants.{First, Second}
+use Rattle.session_slots.specs.declared.source.Source.{Source}
+use Rattle.session_slots.specs.declared.source.Source.TheVariants.{Given, Earlier}
+use Rattle.session_slots.specs.Sessions.{owners, source, Slot}
+use Rattle.session_slots.specs.Sessions.Slot.{Input, At_gate, Mask_product}
 use Rattle.job_plan.specs.Plans.{scheme, session, IsPlan}
 use Rattle.share_world.specs.Worlds.{World, run_of, source_input, source_summands, first_summands, source_value, first_values, summands_before, values_before, value_before, carried_wire, input_of, tape_word, mask, dealt_product, mask_product}
 use Rattle.share_world.specs.Laws.{IsWorld, SumIsPlain}

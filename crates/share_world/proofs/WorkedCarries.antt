@@ -4,12 +4,12 @@ use Rattle.std.specs.Prelude.{All, slice_index, slice_index_or}
 use Rattle.std.specs.List.{AllByRecursion}
 use Rattle.std.proofs.lemmas.Bool.{ne_eqb}
 use Rattle.list_laws.specs.Lists.{total, only_if}
-use Rattle.job_session.specs.declared.source.Source.TheVariants.{Given, Earlier}
-use Rattle.job_session.specs.declared.values.KeptWire.{KeptWire}
-use Rattle.job_session.specs.declared.values.Owner.TheVariants.{Party, Carried}
-use Rattle.job_session.specs.SoundSessions.{IsSoundSession}
-use Rattle.job_session.specs.Sessions.{source, slot_list}
-use Rattle.job_session.specs.Carries.{carrier, kept_from}
+use Rattle.session_slots.specs.declared.source.Source.TheVariants.{Given, Earlier}
+use Rattle.session_slots.specs.declared.values.KeptWire.{KeptWire}
+use Rattle.session_slots.specs.declared.values.Owner.TheVariants.{Party, Carried}
+use Rattle.session_slots.specs.SoundSessions.{IsSoundSession}
+use Rattle.session_slots.specs.Sessions.{source, slot_list}
+use Rattle.session_slots.specs.Carries.{carrier, kept_from}
 use Rattle.job_session.proofs.CircuitSessions.{sound_with}
 use Rattle.job_plan.specs.Plans.{session, words, input_count}
 use Rattle.job_plan.specs.Messages.{messages}

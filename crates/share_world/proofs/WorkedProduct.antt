@@ -6,16 +6,16 @@ use Rattle.std.proofs.lemmas.Bool.{cases_Bool, cases_eq, eq-eqb, eqb-true, ne_eq
 use Rattle.list_laws.specs.Lists.{total}
 use Rattle.list_laws.proofs.JoinedLists.{every_at}
 use Rattle.party_set.specs.Parties.{IsQ2, covers}
-use Rattle.job_session.specs.KeptWires.{IsInOrder, slot_sets, slot_reads}
+use Rattle.session_slots.specs.KeptWires.{IsInOrder, slot_sets, slot_reads}
 use Rattle.circuit_model.specs.declared.gate.Gate.{Gate}
 use Rattle.circuit_model.specs.declared.gate.Operation.TheVariants.{Mul}
-use Rattle.job_session.specs.declared.source.Source.TheVariants.{Given, Earlier}
-use Rattle.job_session.specs.declared.values.Owner.{Owner}
-use Rattle.job_session.specs.declared.values.Owner.TheVariants.{Party}
-use Rattle.job_session.specs.Sessions.{Session, owners, source, source_from, giver, gate, slot_list}
-use Rattle.job_session.specs.Carries.{kept_from}
+use Rattle.session_slots.specs.declared.source.Source.TheVariants.{Given, Earlier}
+use Rattle.session_slots.specs.declared.values.Owner.{Owner}
+use Rattle.session_slots.specs.declared.values.Owner.TheVariants.{Party}
+use Rattle.session_slots.specs.Sessions.{Session, owners, source, source_from, giver, gate, slot_list}
+use Rattle.session_slots.specs.Carries.{kept_from}
 use Rattle.job_plan.specs.Plans.{session, structure, words, gives}
-use Rattle.job_session.specs.SoundSessions.{IsSoundSession}
+use Rattle.session_slots.specs.SoundSessions.{IsSoundSession}
 use Rattle.job_plan.specs.Messages.{messages}
 use Rattle.job_plan.specs.Sound.{IsSound}
 use Rattle.job_plan.specs.InputWords.{AreInputs, given}

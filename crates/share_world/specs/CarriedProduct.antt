@@ -2,8 +2,8 @@
 -- 3.
 use Rattle.std.specs.Prelude.{◌≡◌, false, [], ◌∷◌, map}
 use Rattle.circuit_model.specs.declared.gate.Operation.TheVariants.{Mul}
-use Rattle.job_session.specs.declared.values.Owner.TheVariants.{Party, Carried}
-use Rattle.job_session.specs.Sessions.{Session}
+use Rattle.session_slots.specs.declared.values.Owner.TheVariants.{Party, Carried}
+use Rattle.session_slots.specs.Sessions.{Session}
 use Rattle.job_plan.specs.Plans.{Plan, plan_of}
 use Rattle.job_plan.specs.Multiply.{three_parties}
 use Rattle.job_plan.specs.Messages.{messages}

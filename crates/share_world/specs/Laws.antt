@@ -2,7 +2,7 @@
 use Rattle.std.specs.Prelude.{◌≡◌, ℕ, ◌%◌, ◌^◌, ◌<◌, true, List, [], length, slice_index, slice_index_or}
 use Rattle.list_laws.specs.Lists.{total}
 use Rattle.secret_sharing.specs.Schemes.{summands}
-use Rattle.job_session.specs.Sessions.{output_wire, readers}
+use Rattle.session_slots.specs.Sessions.{output_wire, readers}
 use Rattle.job_plan.specs.Plans.{Plan, IsPlan, is_holder, session}
 use Rattle.job_plan.specs.Sound.{IsSound}
 use Rattle.job_plan.specs.Messages.{messages}

@@ -5,16 +5,16 @@ use Rattle.list_laws.specs.Lists.{total}
 use Rattle.secret_sharing.specs.Schemes.{Run, dealt, own_product, product_summand, own_value, summands}
 use Rattle.secret_sharing.specs.Prepared.{masked, joined_summand}
 use Rattle.job_plan.specs.declared.key.Key.{Key}
-use Rattle.job_session.specs.declared.source.Source.{Source}
-use Rattle.job_session.specs.declared.source.Source.TheVariants.{Given, Earlier}
-use Rattle.job_session.specs.Sessions.{owners, source, gate, operand, output_wire, kept_wire, Slot}
-use Rattle.job_session.specs.Carries.{kept_place}
-use Rattle.job_session.specs.declared.side.Side.{Side}
-use Rattle.job_session.specs.declared.side.Side.TheVariants.{First, Second}
-use Rattle.job_session.specs.SlotNumbers.{first_of_gate}
+use Rattle.session_slots.specs.declared.source.Source.{Source}
+use Rattle.session_slots.specs.declared.source.Source.TheVariants.{Given, Earlier}
+use Rattle.session_slots.specs.Sessions.{owners, source, gate, operand, output_wire, kept_wire, Slot}
+use Rattle.session_slots.specs.Carries.{kept_place}
+use Rattle.session_slots.specs.declared.side.Side.{Side}
+use Rattle.session_slots.specs.declared.side.Side.TheVariants.{First, Second}
+use Rattle.session_slots.specs.SlotNumbers.{first_of_gate}
 use Rattle.job_plan.specs.Plans.{Plan, is_holder, holder_of, scheme, session, slot, slot_number}
 use Rattle.job_plan.specs.Messages.{messages}
-use Rattle.job_session.specs.Sessions.Slot.{Input, At_gate, Output, Mask, Mask_product, Masked, Kept}
+use Rattle.session_slots.specs.Sessions.Slot.{Input, At_gate, Output, Mask, Mask_product, Masked, Kept}
 use Rattle.share_world.specs.Worlds.{World, input_of, tape_word, mask, word}
 
 -- the message of summand i that p sends q in a slot

@@ -2,10 +2,10 @@
 use Rattle.std.specs.Prelude.{◌≡◌, ℕ, Bool, List, length}
 use Rattle.party_set.specs.Parties.{Members}
 use Rattle.circuit_model.specs.Netlists.{Netlist, IsCircuit, plain as value}
-use Rattle.job_session.specs.declared.values.Owner.{Owner}
-use Rattle.job_session.specs.declared.values.KeptWire.{KeptWire}
+use Rattle.session_slots.specs.declared.values.Owner.{Owner}
+use Rattle.session_slots.specs.declared.values.KeptWire.{KeptWire}
 use Rattle.job_session.specs.Parts.{session_of}
-use Rattle.job_session.specs.Sessions.{Session}
+use Rattle.session_slots.specs.Sessions.{Session}
 use Rattle.job_plan.specs.Plans.{session}
 use Rattle.share_world.specs.Worlds.{World, first_values, plain}
 use Rattle.share_world.specs.Solutions.{GatesInOrder}

@@ -6,11 +6,11 @@ use Rattle.circuit_model.specs.Circuits.{is_product}
 use Rattle.circuit_model.specs.Netlists.{arity, is_constant}
 use Rattle.secret_sharing.specs.Schemes.{dealt, local, own_product, has_pair}
 use Rattle.secret_sharing.specs.Prepared.{prepared_summand}
-use Rattle.job_session.specs.declared.source.Source.TheVariants.{Given, Earlier}
-use Rattle.job_session.specs.Sessions.{owners, source, Session, Slot, gate, is_direct, is_prepared}
-use Rattle.job_session.specs.Sessions.Slot.{Input, At_gate, Mask_product}
-use Rattle.job_session.specs.declared.side.Side.TheVariants.{First, Second}
-use Rattle.job_session.specs.SoundSessions.{Inside}
+use Rattle.session_slots.specs.declared.source.Source.TheVariants.{Given, Earlier}
+use Rattle.session_slots.specs.Sessions.{owners, source, Session, Slot, gate, is_direct, is_prepared}
+use Rattle.session_slots.specs.Sessions.Slot.{Input, At_gate, Mask_product}
+use Rattle.session_slots.specs.declared.side.Side.TheVariants.{First, Second}
+use Rattle.session_slots.specs.SoundSessions.{Inside}
 use Rattle.job_plan.specs.Plans.{Plan, scheme, session, deals_in, CarriesEarlier}
 use Rattle.share_world.specs.Worlds.{World, input_of, tape_word, mask, carried_wire, end_summands, plain, deal_of}
 

@@ -13,9 +13,9 @@ use Rattle.party_set.proofs.EveryNumber.{every_at as below_at, every_not, implie
 use Rattle.maximal_groups.specs.Families.{LiesWithin}
 use Rattle.job_plan.specs.InputWords.{AreInputs}
 use Rattle.job_plan.specs.Tallies.{tape_length}
-use Rattle.job_session.specs.Sessions.{Slot, output_wire, owners, source}
-use Rattle.job_session.specs.SoundSessions.{Inside}
-use Rattle.job_session.proofs.SessionSlots.{slots_are_numbered}
+use Rattle.session_slots.specs.Sessions.{Slot, output_wire, owners, source}
+use Rattle.session_slots.specs.SoundSessions.{Inside}
+use Rattle.session_slots.proofs.SessionSlots.{slots_are_numbered}
 use Rattle.job_plan.specs.Plans.{Plan, structure, is_holder, session, slot, slots, slot_number, words_in, words, place}
 use Rattle.job_plan.proofs.Slots.{at_its_number}
 use Rattle.share_world.specs.Worlds.{World, input_of, tape_word}

@@ -13,14 +13,14 @@ use Rattle.secret_sharing.specs.Prepared.{sum_of, joined_summand}
 use Rattle.secret_sharing.proofs.SummandSums.{sum_is_plain, adds_same, dealt_eq}
 use Rattle.secret_sharing.proofs.Agreement.{own_same, runs_agree, product_agrees}
 use Rattle.party_set.specs.Parties.{has_party}
-use Rattle.job_session.specs.declared.side.Side.{Side}
-use Rattle.job_session.specs.declared.side.Side.TheVariants.{First, Second}
-use Rattle.job_session.specs.declared.source.Source.{Source}
-use Rattle.job_session.specs.declared.source.Source.TheVariants.{Given, Earlier}
-use Rattle.job_session.specs.Sessions.{Slot, given_by, owners, source, gate, operand, is_direct}
-use Rattle.job_session.specs.Sessions.Slot.{Input, At_gate, Output, Mask, Mask_product, Masked, Kept}
-use Rattle.job_session.specs.SoundSessions.{Inside}
-use Rattle.job_session.proofs.SessionSlots.{slots_are_numbered, product_within}
+use Rattle.session_slots.specs.declared.side.Side.{Side}
+use Rattle.session_slots.specs.declared.side.Side.TheVariants.{First, Second}
+use Rattle.session_slots.specs.declared.source.Source.{Source}
+use Rattle.session_slots.specs.declared.source.Source.TheVariants.{Given, Earlier}
+use Rattle.session_slots.specs.Sessions.{Slot, given_by, owners, source, gate, operand, is_direct}
+use Rattle.session_slots.specs.Sessions.Slot.{Input, At_gate, Output, Mask, Mask_product, Masked, Kept}
+use Rattle.session_slots.specs.SoundSessions.{Inside}
+use Rattle.session_slots.proofs.SessionSlots.{slots_are_numbered, product_within}
 use Rattle.job_plan.specs.Plans.{Plan, scheme, session, slot, is_holder, holder_of, least_held, deals_in, words_in}
 use Rattle.job_plan.proofs.PlanSchemes.{scheme_is, least_holds, least_within}
 use Rattle.job_plan.proofs.TapePlaces.{masks_have_words}

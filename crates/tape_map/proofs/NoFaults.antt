@@ -12,7 +12,7 @@ use Rattle.list_laws.specs.Checks.{◌answers◌, first_fault}
 use Rattle.party_set.specs.Parties.{Structure, has_party, within}
 use Rattle.maximal_groups.specs.Families.{LiesWithin}
 use Rattle.job_plan.specs.InputWords.{AreInputs}
-use Rattle.job_session.specs.Sessions.{Session, no_session, owners, source, readers, output_wire}
+use Rattle.session_slots.specs.Sessions.{Session, no_session, owners, source, readers, output_wire}
 use Rattle.job_plan.specs.Plans.{Plan, structure, session, reads}
 use Rattle.job_plan.specs.Sound.{IsSound}
 use Rattle.share_world.specs.Laws.{IsWhole}

@@ -11,7 +11,7 @@ use Rattle.circuit_model.specs.declared.gate.Operation.{Operation}
 use Rattle.circuit_model.specs.declared.gate.Operation.TheVariants.{Add, Sub, Neg, Mul, Xor, And, Inv, Eq, Eqw}
 use Rattle.circuit_model.specs.Netlists.{arity, inputs_read, read_by}
 use Rattle.circuit_model.proofs.SetAt.{set_there}
-use Rattle.job_session.specs.Sessions.{Session, gate}
+use Rattle.session_slots.specs.Sessions.{Session, gate}
 use Rattle.job_plan.specs.Plans.{session}
 use Rattle.job_plan.specs.Sound.{IsSound}
 use Rattle.share_world.specs.Solutions.{SetBefore, GatesInOrder, reads_first, reads_second}

@@ -3,7 +3,7 @@ use Rattle.std.proofs.Common.{◌≡◌, ℕ, Bool, true, false, [], ◌∷◌, 
 use Rattle.std.specs.Prelude.{IfSome, not}
 use Rattle.list_laws.specs.Lists.{joined}
 use Rattle.list_laws.specs.Checks.{◌answers◌, first_fault}
-use Rattle.job_session.specs.Sessions.{owners, readers}
+use Rattle.session_slots.specs.Sessions.{owners, readers}
 use Rattle.job_plan.specs.Plans.{session}
 use Rattle.share_world.specs.Worlds.{World}
 use Rattle.tape_map.specs.MapFaults.{HasRecipientBelow, input_check, input_checks, output_checks, map_fault, is_tolerated}

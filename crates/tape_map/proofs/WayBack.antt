@@ -10,12 +10,12 @@ use Rattle.mpc_ring.proofs.Remainders.{same_refl}
 use Rattle.secret_sharing.proofs.Agreement.{own_same}
 use Rattle.party_set.specs.Parties.{has_party}
 use Rattle.std.specs.Prelude.{slice_index}
-use Rattle.job_session.specs.declared.side.Side.{Side}
-use Rattle.job_session.specs.declared.side.Side.TheVariants.{First, Second}
-use Rattle.job_session.specs.Sessions.{Slot, gate, operand}
-use Rattle.job_session.specs.Sessions.Slot.{Input, At_gate, Output, Mask, Mask_product, Masked, Kept}
-use Rattle.job_session.specs.SoundSessions.{Inside}
-use Rattle.job_session.proofs.SessionSlots.{slots_are_numbered}
+use Rattle.session_slots.specs.declared.side.Side.{Side}
+use Rattle.session_slots.specs.declared.side.Side.TheVariants.{First, Second}
+use Rattle.session_slots.specs.Sessions.{Slot, gate, operand}
+use Rattle.session_slots.specs.Sessions.Slot.{Input, At_gate, Output, Mask, Mask_product, Masked, Kept}
+use Rattle.session_slots.specs.SoundSessions.{Inside}
+use Rattle.session_slots.proofs.SessionSlots.{slots_are_numbered}
 use Rattle.job_plan.specs.Plans.{scheme, session, slot, slots, holder_of, least_held, words_in, place}
 use Rattle.job_plan.proofs.Slots.{at_its_number}
 use Rattle.share_world.specs.Worlds.{World, tape_word, mask, value_before, dealt_value}

@@ -8,7 +8,7 @@ use Rattle.job_plan.specs.InputWords.{AreInputs, given}
 use Rattle.job_plan.specs.declared.key.Key.{Key}
 use Rattle.job_plan.specs.Multiply.{multiply_plan}
 use Rattle.job_plan.specs.Numbers.{no_key}
-use Rattle.job_session.specs.Sessions.{owners, source, readers, output_wire, slot_list}
+use Rattle.session_slots.specs.Sessions.{owners, source, readers, output_wire, slot_list}
 use Rattle.job_plan.specs.Plans.{session, gives, reads}
 use Rattle.share_world.specs.Multiply.{multiply_world}
 use Rattle.share_world.specs.Worlds.{input_of, plain}

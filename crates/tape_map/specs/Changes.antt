@@ -6,10 +6,10 @@ use Rattle.mpc_ring.specs.Differences.{difference}
 use Rattle.circuit_model.specs.Circuits.{is_product}
 use Rattle.secret_sharing.specs.Schemes.{own_product}
 use Rattle.party_set.specs.Parties.{has_party}
-use Rattle.job_session.specs.declared.side.Side.{Side}
-use Rattle.job_session.specs.declared.side.Side.TheVariants.{First, Second}
-use Rattle.job_session.specs.Sessions.{Slot, gate, operand, is_prepared, mask_wire, row_names}
-use Rattle.job_session.specs.Sessions.Slot.{Input, At_gate, Mask, Mask_product}
+use Rattle.session_slots.specs.declared.side.Side.{Side}
+use Rattle.session_slots.specs.declared.side.Side.TheVariants.{First, Second}
+use Rattle.session_slots.specs.Sessions.{Slot, gate, operand, is_prepared, mask_wire, row_names}
+use Rattle.session_slots.specs.Sessions.Slot.{Input, At_gate, Mask, Mask_product}
 use Rattle.job_plan.specs.Plans.{Plan, scheme, session, slot, slots, words_in, place}
 use Rattle.job_plan.specs.InputWords.{session_words}
 use Rattle.wire_tables.specs.Steps.{IsRow}

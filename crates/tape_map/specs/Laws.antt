@@ -9,8 +9,8 @@ use Rattle.maximal_groups.specs.Families.{LiesWithin}
 use Rattle.job_plan.specs.InputWords.{AreInputs, InputLists}
 use Rattle.job_plan.specs.Messages.{messages}
 use Rattle.job_plan.specs.Numbers.{message}
-use Rattle.job_session.specs.Sessions.{owners, readers, gate, is_prepared, output_wire, source}
-use Rattle.job_session.specs.declared.side.Side.{Side}
+use Rattle.session_slots.specs.Sessions.{owners, readers, gate, is_prepared, output_wire, source}
+use Rattle.session_slots.specs.declared.side.Side.{Side}
 use Rattle.job_plan.specs.Plans.{Plan, structure, is_holder, session, reads, slot, slots, words_in}
 use Rattle.share_world.specs.Worlds.{World, input_of, tape_word, mask, masked_summand, dealt_value, run_of, plain, word, touches, view}
 use Rattle.share_world.specs.Laws.{IsWhole, AreTapes}

@@ -4,7 +4,7 @@ use Rattle.std.specs.List.{list_any}
 use Rattle.list_laws.specs.Lists.{joined, listed}
 use Rattle.list_laws.specs.Checks.{◌answers◌, first_fault}
 use Rattle.party_set.specs.Parties.{has_party, within}
-use Rattle.job_session.specs.Sessions.{owners, readers, output_wire, source}
+use Rattle.session_slots.specs.Sessions.{owners, readers, output_wire, source}
 use Rattle.job_plan.specs.Plans.{Plan, session, reads}
 use Rattle.share_world.specs.Worlds.{World, input_of, plain}
 use Rattle.tape_map.specs.TapeMaps.{member_gives, with_inputs}

@@ -6,12 +6,12 @@ use Rattle.list_laws.specs.Lists.{joined, listed}
 use Rattle.mpc_ring.specs.Differences.{difference}
 use Rattle.secret_sharing.specs.Schemes.{own_product, summands}
 use Rattle.party_set.specs.Parties.{has_party, within}
-use Rattle.job_session.specs.declared.source.Source.{Source}
-use Rattle.job_session.specs.declared.source.Source.TheVariants.{Given, Earlier}
-use Rattle.job_session.specs.Sessions.{Slot, gate, operand}
-use Rattle.job_session.specs.Sessions.Slot.{Input, At_gate, Mask, Mask_product}
-use Rattle.job_session.specs.declared.side.Side.{Side}
-use Rattle.job_session.specs.declared.side.Side.TheVariants.{First, Second}
+use Rattle.session_slots.specs.declared.source.Source.{Source}
+use Rattle.session_slots.specs.declared.source.Source.TheVariants.{Given, Earlier}
+use Rattle.session_slots.specs.Sessions.{Slot, gate, operand}
+use Rattle.session_slots.specs.Sessions.Slot.{Input, At_gate, Mask, Mask_product}
+use Rattle.session_slots.specs.declared.side.Side.{Side}
+use Rattle.session_slots.specs.declared.side.Side.TheVariants.{First, Second}
 use Rattle.job_plan.specs.Plans.{Plan, scheme, session, slot, slots, words_in, holder_of, least_held}
 use Rattle.share_world.specs.Worlds.{World, input_of, tape_word, value_before, mask, dealt_value, run_of}
 use Rattle.job_plan.specs.InputWords.{InputLists}

@@ -30,9 +30,9 @@ pub struct Change {
 
 impl Change {
     ghost use Rattle.std.specs.Prelude.{◌≡◌, ℕ, ◌+◌, ◌^◌, ◌<◌, ◌≤◌, ◌++◌, IfOk, OnOk, All, true, length};
-    ghost use Rattle.job_session.specs.Sessions.{is_prepared};
-    ghost use Rattle.job_session.specs.Sessions.Slot.{At_gate, Mask_product};
-    ghost use Rattle.job_session.specs.SoundSessions.{Inside, slot_of_kind};
+    ghost use Rattle.session_slots.specs.Sessions.{is_prepared};
+    ghost use Rattle.session_slots.specs.Sessions.Slot.{At_gate, Mask_product};
+    ghost use Rattle.session_slots.specs.SoundSessions.{Inside, slot_of_kind};
     ghost use Rattle.job_plan.specs.Plans.{session, place, words};
     ghost use Rattle.share_world.specs.Laws.{IsWhole};
     ghost use Rattle.wire_tables.specs.WireTables.{AreCarried, summand_rows, world_of};

@@ -1,8 +1,8 @@
 //! Whether a member sees a difference.
 ghost use Rattle.std.specs.Prelude.{◌≡◌, ℕ, ◌&&◌, ◌<◌, nat_eq, not, length, slice_index};
 ghost use Rattle.party_set.specs.Parties.{has_party};
-ghost use Rattle.job_session.specs.declared.source.Source.TheVariants.{Given};
-ghost use Rattle.job_session.specs.Sessions.{readers};
+ghost use Rattle.session_slots.specs.declared.source.Source.TheVariants.{Given};
+ghost use Rattle.session_slots.specs.Sessions.{readers};
 ghost use Rattle.tape_map.specs.TapeMaps.{member_gives};
 
 use job_plan::SessionPart;

@@ -6,7 +6,8 @@ ghost use Rattle.text_parts.specs.Parts.{group_text, member_text};
 
 use itoa::Buffer;
 use outer_io::Gather;
-use party_set::{Group, Names, party_mask};
+use party_names::Names;
+use party_set::{Group, party_mask};
 
 /// Adds the digits of a number.
 pub fn gather_number<G: Gather>(out: &mut G, number: u64)

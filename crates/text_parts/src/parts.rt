@@ -5,7 +5,8 @@ ghost use Rattle.list_laws.specs.Lists.{only_if};
 ghost use Rattle.text_parts.specs.Parts.{group_text, member_text};
 
 use itoa::Buffer;
-use party_set::{Group, Names, party_mask};
+use party_names::Names;
+use party_set::{Group, party_mask};
 use std::alloc::AllocError;
 
 /// Adds these bytes.

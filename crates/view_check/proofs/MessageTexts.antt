@@ -17,7 +17,7 @@ use Rattle.text_tokens.specs.Tokens.{not_empty}
 use Rattle.text_tokens.specs.Numbers.{is_digits, is_decimal}
 use Rattle.text_tokens.proofs.Values.{digits, all_digits, some_not_empty}
 use Rattle.text_tokens.proofs.Decimals.{decimal_is}
-use Rattle.party_set.specs.Names.{is_name_byte, name_at, AreNames}
+use Rattle.party_names.specs.Names.{is_name_byte, name_at, AreNames}
 use Rattle.job_plan.specs.declared.key.Key.{Key}
 use Rattle.view_check.specs.declared.fault.CheckFault.{CheckFault}
 use Rattle.view_check.specs.declared.fault.CheckFault.TheVariants.{BadLine, WrongKey, WrongWord}

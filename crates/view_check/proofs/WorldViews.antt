@@ -5,7 +5,7 @@ use Rattle.std.proofs.lemmas.Nat.{div-mul-add, pow_pos}
 use Rattle.party_set.specs.Parties.{has_party}
 use Rattle.job_plan.specs.Numbers.{message}
 use Rattle.std.specs.Prelude.{MatchResult, IfOk, IfErr}
-use Rattle.party_set.specs.Names.{AreNames}
+use Rattle.party_names.specs.Names.{AreNames}
 use Rattle.job_plan.specs.declared.key.Key.{Key}
 use Rattle.share_world.specs.Worlds.{view}
 use Rattle.view_check.specs.declared.fault.CheckFault.{CheckFault}

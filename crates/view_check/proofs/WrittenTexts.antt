@@ -2,7 +2,7 @@
 use Rattle.std.proofs.Common.{◌≡◌, ℕ, ◌+◌, List, [], ◌∷◌, ◌++◌, Option, None, Some, IfSome, sym, ap, ◌∙◌, arith, append_assoc}
 use Rattle.std.specs.Prelude.{decimal}
 use Rattle.std.specs.Option.{option_or}
-use Rattle.party_set.specs.Names.{name_at}
+use Rattle.party_names.specs.Names.{name_at}
 use Rattle.job_plan.specs.declared.key.Key.{Key}
 use Rattle.view_text.specs.ViewText.{message_line}
 use Rattle.view_check.specs.MessageLines.{StandsFirst}

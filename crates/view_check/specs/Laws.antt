@@ -1,7 +1,7 @@
 -- What a verdict on a text says.
 use Rattle.std.specs.Prelude.{◌≡◌, ◌≢◌, ◌↔◌, ◌⊎◌, ℕ, ◌+◌, ◌^◌, ◌<◌, true, List, [], length, take, slice_index_or, Some, Ok, Err}
 use Rattle.std.specs.List.{AllByRecursion}
-use Rattle.party_set.specs.Names.{AreNames}
+use Rattle.party_names.specs.Names.{AreNames}
 use Rattle.job_plan.specs.declared.key.Key.{Key}
 use Rattle.view_check.specs.declared.fault.CheckFault.{CheckFault}
 use Rattle.view_check.specs.declared.fault.CheckFault.TheVariants.{WrongWord}

@@ -17,7 +17,8 @@ use crate::head::head_group;
 use crate::lines::Lines;
 use crate::view_lines::ViewLines;
 use job_plan::{Inputs, Key, Plan};
-use party_set::{Group, Names};
+use party_names::Names;
+use party_set::Group;
 use std::alloc::Global;
 use view_text::touches;
 use wire_tables::{

@@ -4,7 +4,7 @@ ghost use Rattle.view_text.specs.ViewText.{message_line};
 
 use itoa::Buffer;
 use job_plan::Key;
-use party_set::Names;
+use party_names::Names;
 
 // What follows this part and then this byte at the front of a text.
 fn after_part<'a>(text: &'a [u8], part: &[u8], end: u8) -> Option<&'a [u8]>

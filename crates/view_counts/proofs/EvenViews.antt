@@ -5,7 +5,7 @@ use Rattle.std.specs.Bool.{Decides}
 use Rattle.std.proofs.lemmas.Bool.{and_parts, and_from, eq-eqb, eqb-true}
 use Rattle.std.proofs.lemmas.Slice.Eq.{slice_eq-Decides}
 use Rattle.list_laws.proofs.JoinedLists.{listed_at}
-use Rattle.job_session.specs.Sessions.{output_wire}
+use Rattle.session_slots.specs.Sessions.{output_wire}
 use Rattle.job_plan.specs.declared.key.Key.{Key}
 use Rattle.job_plan.specs.Numbers.{same_key}
 use Rattle.job_plan.specs.Plans.{session}

@@ -1,6 +1,6 @@
 -- The worked job's counts, by computation.
 use Rattle.std.proofs.Common.{refl}
-use Rattle.job_session.specs.Sessions.{slot_list}
+use Rattle.session_slots.specs.Sessions.{slot_list}
 use Rattle.view_counts.specs.Multiply.{ChoicesForA, WaysForA, WaysForC, WaysForBoth, KnownToA, KnownToC}
 
 pub choices_for_a : ChoicesForA

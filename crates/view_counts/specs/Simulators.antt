@@ -7,9 +7,9 @@ use Rattle.secret_sharing.specs.Schemes.{summands}
 use Rattle.party_set.specs.Parties.{has_party}
 use Rattle.job_plan.specs.declared.key.Key.{Key}
 use Rattle.job_plan.specs.Messages.{messages}
-use Rattle.job_session.specs.Sessions.{Slot, owners, readers, output_wire}
+use Rattle.session_slots.specs.Sessions.{Slot, owners, readers, output_wire}
 use Rattle.job_plan.specs.Plans.{Plan, session, gives, reads, slot}
-use Rattle.job_session.specs.Sessions.Slot.{Output}
+use Rattle.session_slots.specs.Sessions.Slot.{Output}
 use Rattle.share_world.specs.Worlds.{World, run_of, plain, word_in, touches}
 use Rattle.tape_map.specs.TapeMaps.{hidden, raised, tape_of}
 use Rattle.view_counts.specs.Counts.{choices}

@@ -4,8 +4,8 @@ use Rattle.std.proofs.lemmas.List.{length-replicate}
 use Rattle.std.specs.Prelude.{slice_index, slice_index_or, codes, decimal}
 use Rattle.list_laws.specs.Lists.{total, joined, listed}
 use Rattle.list_laws.proofs.JoinedLists.{joined_eq, listed_at, length-listed}
-use Rattle.job_session.specs.declared.values.OutputValue.{OutputValue}
-use Rattle.job_session.specs.Sessions.{readers_of}
+use Rattle.session_slots.specs.declared.values.OutputValue.{OutputValue}
+use Rattle.session_slots.specs.Sessions.{readers_of}
 use Rattle.job_plan.specs.Plans.{Plan, session}
 use Rattle.job_plan.specs.Sound.{IsSound}
 use Rattle.text_parts.specs.Parts.{words_text}

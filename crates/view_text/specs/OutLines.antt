@@ -1,8 +1,8 @@
 -- The output values of a session, and the line of one for one reader.
 use Rattle.std.specs.Prelude.{ℕ, List, ◌++◌, slice_index_or, codes, decimal}
 use Rattle.list_laws.specs.Lists.{total}
-use Rattle.job_session.specs.declared.values.OutputValue.{OutputValue}
-use Rattle.job_session.specs.Sessions.{Session}
+use Rattle.session_slots.specs.declared.values.OutputValue.{OutputValue}
+use Rattle.session_slots.specs.Sessions.{Session}
 use Rattle.text_parts.specs.Parts.{words_text}
 
 abbrev pub no_output : OutputValue

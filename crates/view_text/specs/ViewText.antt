@@ -1,7 +1,7 @@
 -- The text of what a group sees of a run.
 use Rattle.std.specs.Prelude.{ℕ, List, ◌++◌, codes, decimal}
 use Rattle.std.specs.List.{flat_map}
-use Rattle.party_set.specs.Names.{name_at}
+use Rattle.party_names.specs.Names.{name_at}
 use Rattle.job_plan.specs.declared.key.Key.{Key}
 use Rattle.text_parts.specs.Parts.{group_text}
 

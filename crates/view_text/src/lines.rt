@@ -6,7 +6,8 @@ ghost use Rattle.view_text.specs.ViewText.{view_head, message_line, key_place, k
 
 use job_plan::Key;
 use outer_io::Gather;
-use party_set::{Group, Names};
+use party_names::Names;
+use party_set::Group;
 use text_parts::{gather_group, gather_number, gather_word};
 
 /// Adds the first line of a view: `view GROUP`.

@@ -11,9 +11,9 @@ use Rattle.sha2.proofs.Facts256.{length-sha256}
 use Rattle.list_laws.specs.Lists.{listed}
 use Rattle.list_laws.proofs.JoinedLists.{length-listed, listed_at}
 use Rattle.party_set.specs.Parties.{Structure}
-use Rattle.party_set.specs.Names.{party_named}
-use Rattle.party_set.proofs.NameFaults.{number_at}
-use Rattle.job_session.specs.Sessions.{Session}
+use Rattle.party_names.specs.Names.{party_named}
+use Rattle.party_names.proofs.NameFaults.{number_at}
+use Rattle.session_slots.specs.Sessions.{Session}
 use Rattle.job_plan.specs.Plans.{Plan, plan_of}
 use Rattle.job_plan.specs.Keeping.{keeping}
 use Rattle.job_plan.specs.Sound.{IsSound}

@@ -14,12 +14,12 @@ use Rattle.expr_circuit.specs.Circuits.{circuit, netlist, draft_of}
 use Rattle.expr_circuit.specs.Laws.{IsCircuitOf, output_words}
 use Rattle.expr_circuit.proofs.ValidPrograms.{program_has_its_value}
 use Rattle.refusal_text.specs.Lines.{too_long_line}
-use Rattle.job_session.specs.Sessions.{Session, no_session, readers, output_wire}
-use Rattle.job_session.specs.declared.values.KeptWire.{KeptWire}
-use Rattle.job_session.specs.declared.values.Owner.{Owner}
-use Rattle.job_session.specs.Carries.{kept_from}
+use Rattle.session_slots.specs.Sessions.{Session, no_session, readers, output_wire}
+use Rattle.session_slots.specs.declared.values.KeptWire.{KeptWire}
+use Rattle.session_slots.specs.declared.values.Owner.{Owner}
+use Rattle.session_slots.specs.Carries.{kept_from}
 use Rattle.job_session.specs.Parts.{carries_fault, part_fault, output_values}
-use Rattle.job_session.proofs.ValueWires.{readers_long}
+use Rattle.job_session.proofs.ValueCounts.{readers_long}
 use Rattle.job_session.proofs.CircuitSessions.{counts_agree}
 use Rattle.job_plan.specs.Plans.{CarriesEarlier, Plan, plan_of, session}
 use Rattle.job_plan.specs.Keeping.{keeping}

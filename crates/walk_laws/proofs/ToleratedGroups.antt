@@ -16,10 +16,10 @@ use Rattle.toml_fields.specs.Documents.{document_of}
 use Rattle.list_laws.specs.Checks.{◌answers◌}
 use Rattle.list_laws.proofs.Tests.{or_false}
 use Rattle.party_set.specs.Parties.{Structure, Members, has_party, within}
-use Rattle.party_set.specs.Names.{AreNames, name_at, party_named}
+use Rattle.party_names.specs.Names.{AreNames, name_at, party_named}
 use Rattle.party_set.proofs.EveryNumber.{every_at, every_from, implies_at, implies_from}
 use Rattle.party_set.proofs.Masks.{has_with, power_is}
-use Rattle.party_set.proofs.NameFaults.{number_at}
+use Rattle.party_names.proofs.NameFaults.{number_at}
 use Rattle.maximal_groups.specs.Families.{IsFamily, LiesWithin, is_tolerated_by, maximal_structure}
 use Rattle.maximal_groups.proofs.FoundGroups.{tells}
 use Rattle.maximal_groups.proofs.Lists.{list_is_family}

@@ -4,7 +4,7 @@ use Rattle.std.specs.List.{Contains}
 use Rattle.toml.specs.Data.{Members as Fields}
 use Rattle.toml_fields.specs.Documents.{document_of}
 use Rattle.party_set.specs.Parties.{has_party}
-use Rattle.party_set.specs.Names.{name_at}
+use Rattle.party_names.specs.Names.{name_at}
 use Rattle.maximal_groups.specs.Families.{LiesWithin}
 use Rattle.group_formula.specs.Trees.{Meaning, is_tolerated}
 use Rattle.group_formula.specs.Formulas.{IsFormula}

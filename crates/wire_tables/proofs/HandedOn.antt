@@ -2,11 +2,11 @@
 use Rattle.std.proofs.Common.{◌≡◌, ℕ, ◌+◌, ◌<◌, true, false, List, [], length, refl, sym, ap, ◌∙◌, subst, arith, inl, inr}
 use Rattle.std.specs.Prelude.{slice_index_or}
 use Rattle.std.proofs.lemmas.Bool.{cases_eq, both_ways, eqb-true, ne_eqb}
-use Rattle.job_session.specs.declared.source.Source.{Source}
-use Rattle.job_session.specs.declared.source.Source.TheVariants.{Given, Earlier}
-use Rattle.job_session.specs.declared.values.KeptWire.{KeptWire}
-use Rattle.job_session.specs.Sessions.{Session, carries, kept_wire, no_kept, source}
-use Rattle.job_session.specs.Carries.{IsKeptAt, kept_place}
+use Rattle.session_slots.specs.declared.source.Source.{Source}
+use Rattle.session_slots.specs.declared.source.Source.TheVariants.{Given, Earlier}
+use Rattle.session_slots.specs.declared.values.KeptWire.{KeptWire}
+use Rattle.session_slots.specs.Sessions.{Session, carries, kept_wire, no_kept, source}
+use Rattle.session_slots.specs.Carries.{IsKeptAt, kept_place}
 use Rattle.job_session.proofs.Carries.{kept_have_places}
 use Rattle.job_plan.specs.Plans.{Plan, CarriesEarlier, KeepsCarried, session}
 use Rattle.job_plan.specs.Sound.{IsSound}

@@ -1,5 +1,5 @@
 -- The row that a slot sets, as it is made of the rows before it.
-use Rattle.std.proofs.Common.{◌≡◌, ℕ, ◌%◌, ◌^◌, ◌<◌, true, false, not, ◌||◌, nat_eq, if◌then◌else◌, List, [], ◌∷◌, length, replicate, refl, sym, ap, ap₂, ◌∙◌, subst, arith}
+use Rattle.std.proofs.Common.{◌≡◌, ℕ, ◌%◌, ◌^◌, ◌<◌, Bool, true, false, not, ◌||◌, nat_eq, if◌then◌else◌, List, [], ◌∷◌, length, replicate, refl, sym, ap, ap₂, ◌∙◌, subst, arith}
 use Rattle.std.specs.Prelude.{slice_index, slice_index_or}
 use Rattle.std.specs.Global.{Vec}
 use Rattle.std.specs.List.{list_any}
@@ -16,16 +16,16 @@ use Rattle.circuit_model.specs.Circuits.{is_product}
 use Rattle.circuit_model.specs.Netlists.{read_by}
 use Rattle.secret_sharing.specs.Schemes.{has_pair, local, product_summand}
 use Rattle.secret_sharing.specs.Prepared.{masked, sum_of, prepared_summand}
-use Rattle.job_session.specs.declared.side.Side.{Side}
-use Rattle.job_session.specs.declared.side.Side.TheVariants.{First, Second}
-use Rattle.job_session.specs.declared.source.Source.TheVariants.{Given, Earlier}
-use Rattle.job_session.specs.Sessions.{Session, owners, source, gate, is_prepared, is_direct, operand, mask_wire, product_wire, row_names}
-use Rattle.job_session.specs.Sessions.Slot.{Input, At_gate, Mask, Mask_product, Masked}
-use Rattle.job_session.specs.SoundSessions.{IsWired}
-use Rattle.job_session.specs.SlotNumbers.{session_slot_number}
-use Rattle.job_session.specs.KeptWires.{reads_in, sets_in, slot_sets}
-use Rattle.job_session.proofs.RowNames.{wires_named, mask_within, product_named}
-use Rattle.job_plan.specs.Plans.{scheme, session, slot, slots}
+use Rattle.session_slots.specs.declared.side.Side.{Side}
+use Rattle.session_slots.specs.declared.side.Side.TheVariants.{First, Second}
+use Rattle.session_slots.specs.declared.source.Source.TheVariants.{Given, Earlier}
+use Rattle.session_slots.specs.Sessions.{Session, owners, source, gate, is_prepared, is_direct, operand, mask_wire, product_in, product_wire, row_names}
+use Rattle.session_slots.specs.Sessions.Slot.{Input, At_gate, Mask, Mask_product, Masked}
+use Rattle.session_slots.specs.SoundSessions.{IsWired}
+use Rattle.session_slots.specs.SlotNumbers.{session_slot_number}
+use Rattle.session_slots.specs.KeptWires.{reads_in, sets_in, slot_sets}
+use Rattle.session_slots.proofs.RowNames.{wires_named, mask_within, product_named}
+use Rattle.job_plan.specs.Plans.{deals_in, scheme, session, slot, slots}
 use Rattle.job_plan.specs.InputWords.{session_words}
 use Rattle.share_world.specs.Laws.{IsWhole}
 use Rattle.share_world.specs.Solutions.{SummandsSolve, reads_first, reads_second}
@@ -36,12 +36,12 @@ use Rattle.share_world.proofs.SlotOrder.{masked_first}
 use Rattle.share_world.proofs.SmallWords.{positive}
 use Rattle.share_world.proofs.Solutions.{is_solution, local_reads}
 use Rattle.wire_tables.specs.Places.{ArePlaces, dealt_at, mask_at}
-use Rattle.wire_tables.specs.Steps.{AreRows, IsRow, SetsRow, last_row, row_before}
+use Rattle.wire_tables.specs.declared.summands.BeforeSlot.{BeforeSlot}
+use Rattle.wire_tables.specs.Steps.{AreRows, IsBeforeSlot, IsRow, SetsRow, last_row, row_before}
 use Rattle.wire_tables.specs.WireTables.{summand_row, mask_row, product_row}
-use Rattle.wire_tables.proofs.ListedRows.{row_read}
 use Rattle.wire_tables.proofs.RowSteps.{read_whole}
 use Rattle.wire_tables.proofs.SlotWords.{number_here, inside_here, dealt_here, product_here, drawn_here}
-use Rattle.wire_tables.proofs.TableRows.{wire_last, mask_last, product_last, wire_whole, row_whole}
+use Rattle.wire_tables.proofs.TableRows.{wire_last, mask_last, product_last, wire_whole, mask_whole, product_whole, row_whole}
 
 -- one of three names
 among : (a b c : ℕ) → (list_any (nat_eq a) (a ∷ b ∷ c ∷ []) ≡ true) × (list_any (nat_eq b) (a ∷ b ∷ c ∷ []) ≡ true) × (list_any (nat_eq c) (a ∷ b ∷ c ∷ []) ≡ true)
@@ -123,13 +123,6 @@ module _ (w : World) (whole : IsWhole w) (s k : ℕ) (ls : s < length w.plan.ses
     abbrev row_at : ℕ → List ℕ
     row_at v = slice_index_or (session_words rows) v []
 
-    -- a row that was read of the vectors
-    pub named : (name n : ℕ) → name ≡ n → n < row_names x → name < length rows
-    named name n e l = omega (arith, e, l, h.names)
-
-    pub found : (name n : ℕ) (row : Vec ℕ) (a : List ℕ) → name ≡ n → n < row_names x → row ≡ slice_index_or rows name row → a ≡ row.items → a ≡ row_at n
-    found name n row a e l is items = items ∙ row_read rows name row (named name n e l) is ∙ ap row_at e
-
     -- the masks of a prepared product, at the slot of their product
     pub masks_read : (t : ℕ) (side : Side) → slot w.plan s k ≡ Mask_product t → row_at (mask_wire x t side) ≡ mask_row w s t side
     masks_read t side z =
@@ -193,26 +186,6 @@ module _ (w : World) (whole : IsWhole w) (s k : ℕ) (ls : s < length w.plan.ses
       pub their_product : is_prepared x t ≡ true → row_at (product_wire x t) ≡ product_row w s t
       their_product e = joined_read (product_wire x t) e (product_named x t there e) (among (mask_wire x t First) (mask_wire x t Second) (product_wire x t)).2 ∙ product_last w s t there e
 
-      -- the gate as it was read
-      module _ (g : Gate) (same : g ≡ gate x t) where
-        first_named : (gate x t).first < row_names x
-        first_named = omega (arith, wired.first t there, wires_named x)
-
-        second_named : (gate x t).second < row_names x
-        second_named = omega (arith, wired.second t there, wires_named x)
-
-        pub first_there : g.first < length rows
-        first_there = named g.first (gate x t).first (ap (λ (g : Gate). g.first) same) first_named
-
-        pub second_there : g.second < length rows
-        second_there = named g.second (gate x t).second (ap (λ (g : Gate). g.second) same) second_named
-
-        pub first_found : (row : Vec ℕ) (a : List ℕ) → row ≡ slice_index_or rows g.first row → a ≡ row.items → a ≡ row_at (gate x t).first
-        first_found row a = found g.first (gate x t).first row a (ap (λ (g : Gate). g.first) same) first_named
-
-        pub second_found : (row : Vec ℕ) (a : List ℕ) → row ≡ slice_index_or rows g.second row → a ≡ row.items → a ≡ row_at (gate x t).second
-        second_found row a = found g.second (gate x t).second row a (ap (λ (g : Gate). g.second) same) second_named
-
       pub first_row : (a : List ℕ) → a ≡ row_at (gate x t).first → IsRow w.plan a
       first_row a e = row_whole w.plan a _ e (wire_row (gate x t).first (wired.first t there))
 
@@ -272,3 +245,134 @@ module _ (w : World) (whole : IsWhole w) (s k : ℕ) (ls : s < length w.plan.ses
 
               excess_alike : (f f' g g' : ℕ → ℕ) → ((j : ℕ) → j < m → f j ≡ f' j) → ((j : ℕ) → j < m → g j ≡ g' j) → sum_of (scheme w.plan) (masked (scheme w.plan) f g) ≡ sum_of (scheme w.plan) (masked (scheme w.plan) f' g')
               excess_alike f f' g g' hf hg = ap (λ n. n % 2 ^ w.plan.bits) (total_eq m _ _ (λ j lj. ap₂ (difference (2 ^ w.plan.bits)) (hf j lj) (hg j lj)))
+
+-- ---- the slot of a gate, with the rows before it as they are read by their names
+
+-- the gate of a slot, as it was read of its session, and what is there before it
+pub record AtGate (w : World) (before : BeforeSlot) (t : ℕ) (g : Gate) : Type 0 where
+  pub whole : IsWhole w
+  pub before_is : IsBeforeSlot w before
+  pub is : slot w.plan before.session before.slot ≡ At_gate t
+  pub gate_is : g ≡ gate (session w.plan before.session) t
+
+module _ (w : World) (before : BeforeSlot) (t : ℕ) (g : Gate) where
+  abbrev of_session : Session
+  of_session = session w.plan before.session
+
+  abbrev named_row : ℕ → List ℕ
+  named_row name = slice_index_or (session_words before.rows.now) name []
+
+  pub at_gate : (part : Session) → IsWhole w → IsBeforeSlot w before → slot w.plan before.session before.slot ≡ At_gate t → part ≡ of_session → g ≡ gate part t → AtGate w before t g
+  at_gate part whole before_is is part_is gate_is = record {
+    whole = whole;
+    before_is = before_is;
+    is = is;
+    gate_is = gate_is ∙ ap (λ (y : Session). gate y t) part_is;
+  }
+
+  module _ (r : AtGate w before t g) where
+    abbrev wires_of : IsWired of_session
+    wires_of = wired w r.whole before.session before.slot r.before_is.in_session r.before_is.in_slot
+
+    gate_there : t < length of_session.gates
+    gate_there = there w r.whole before.session before.slot r.before_is.in_session r.before_is.in_slot before.rows.now r.before_is.rows t r.is
+
+    pub gate_within : (part : Session) → part ≡ of_session → t < length part.gates
+    gate_within part part_is = subst (λ (y : Session). t < length y.gates) (sym part_is) gate_there
+
+    pub first_named : g.first < length before.rows.now
+    first_named = omega (arith, ap (λ (h : Gate). h.first) r.gate_is, wires_of.first t gate_there, wires_named of_session, r.before_is.rows.names)
+
+    pub second_named : g.second < length before.rows.now
+    second_named = omega (arith, ap (λ (h : Gate). h.second) r.gate_is, wires_of.second t gate_there, wires_named of_session, r.before_is.rows.names)
+
+    -- the rows of its wires
+    module _ (a b : List ℕ) (ha : a ≡ named_row g.first) (hb : b ≡ named_row g.second) where
+      first_is : a ≡ named_row (gate of_session t).first
+      first_is = ha ∙ ap (λ (h : Gate). named_row h.first) r.gate_is
+
+      second_is : b ≡ named_row (gate of_session t).second
+      second_is = hb ∙ ap (λ (h : Gate). named_row h.second) r.gate_is
+
+      pub wire_rows : IsRow w.plan a × IsRow w.plan b
+      wire_rows = (
+        first_row w r.whole before.session before.slot r.before_is.in_session r.before_is.in_slot before.rows.now r.before_is.rows t r.is a first_is,
+        second_row w r.whole before.session before.slot r.before_is.in_session r.before_is.in_slot before.rows.now r.before_is.rows t r.is b second_is,
+      )
+
+      same_product : (b : Bool) → is_product g.operation ≡ b → is_product (gate of_session t).operation ≡ b
+      same_product b e = sym (ap (λ (h : Gate). is_product h.operation) r.gate_is) ∙ e
+
+      pub linear_set : (bits : ℕ) (row : List ℕ) → is_product g.operation ≡ false → bits ≡ w.plan.bits
+          → row ≡ listed (length a) (λ i. local (2 ^ bits) g.operation g.constant i (slice_index a i) (slice_index b i)) → SetsRow w before.session before.slot (gate of_session t).output row
+      linear_set bits row linear bits_are e =
+          let summands : ℕ → ℕ → Gate → List ℕ = λ n q h. listed n (λ i. local (2 ^ q) h.operation h.constant i (slice_index a i) (slice_index b i)) in
+          linear_made w r.whole before.session before.slot r.before_is.in_session r.before_is.in_slot before.rows.now r.before_is.rows t r.is a b row first_is second_is (same_product false linear)
+          (e ∙ ap₂ (λ n q. summands n q g) wire_rows.0.long bits_are ∙ ap (summands (length w.plan.groups) w.plan.bits) r.gate_is)
+
+      module _ (product : is_product g.operation ≡ true) where
+        pub part_dealt : of_session.prepared ≡ false → (p : ℕ) → has_pair (scheme w.plan) p ≡ true → deals_in w.plan before.session p (slot w.plan before.session before.slot) ≡ true
+        part_dealt direct p pair = ap (deals_in w.plan before.session p) r.is ∙ and_from _ _ (and_from _ _ (not_from_false of_session.prepared direct) (same_product true product)) pair
+
+        pub product_set : of_session.prepared ≡ false → (row : List ℕ)
+            → row ≡ listed (length w.plan.groups) (product_summand (scheme w.plan) (dealt_at w before.places.now) (slice_index a) (slice_index b)) → SetsRow w before.session before.slot (gate of_session t).output row
+        product_set direct row e =
+            direct_made w r.whole before.session before.slot r.before_is.in_session r.before_is.in_slot before.rows.now r.before_is.rows t r.is a b row first_is second_is (same_product true product) direct
+            before.places.now r.before_is.places e
+
+        module _ (all_prepared : of_session.prepared ≡ true) (masks : Gate) (masks_are : masks ≡ product_in of_session (Mask_product t)) where
+          is_prepared_here : is_prepared of_session t ≡ true
+          is_prepared_here = and_from of_session.prepared _ all_prepared (same_product true product)
+
+          mask_row_is : (side : Side) (row : List ℕ) → row ≡ mask_row w before.session t side → IsRow w.plan row
+          mask_row_is side row e = row_whole w.plan row _ e (mask_whole w r.whole before.session t side)
+
+          module _ (c d e : List ℕ) (hc : c ≡ named_row masks.first) (hd : d ≡ named_row masks.second) (he : e ≡ named_row masks.output) where
+            first_mask_is : c ≡ mask_row w before.session t First
+            first_mask_is =
+                hc ∙ ap (λ (h : Gate). named_row h.first) masks_are
+                ∙ first_mask w r.whole before.session before.slot r.before_is.in_session r.before_is.in_slot before.rows.now r.before_is.rows t r.is is_prepared_here
+
+            second_mask_is : d ≡ mask_row w before.session t Second
+            second_mask_is =
+                hd ∙ ap (λ (h : Gate). named_row h.second) masks_are
+                ∙ second_mask w r.whole before.session before.slot r.before_is.in_session r.before_is.in_slot before.rows.now r.before_is.rows t r.is is_prepared_here
+
+            product_is : e ≡ product_row w before.session t
+            product_is =
+                he ∙ ap (λ (h : Gate). named_row h.output) masks_are
+                ∙ their_product w r.whole before.session before.slot r.before_is.in_session r.before_is.in_slot before.rows.now r.before_is.rows t r.is is_prepared_here
+
+            pub mask_rows : IsRow w.plan c × IsRow w.plan d × IsRow w.plan e
+            mask_rows = (mask_row_is First c first_mask_is, mask_row_is Second d second_mask_is, row_whole w.plan e _ product_is (product_whole w r.whole before.session t))
+
+            pub join_set : (row : List ℕ)
+                → row ≡ listed (length w.plan.groups) (prepared_summand (scheme w.plan) (slice_index c) (slice_index d) (slice_index e) (slice_index a) (slice_index b))
+                → SetsRow w before.session before.slot (gate of_session t).output row
+            join_set row is =
+                joined_made w r.whole before.session before.slot r.before_is.in_session r.before_is.in_slot before.rows.now r.before_is.rows t r.is a b row first_is second_is (same_product true product)
+                all_prepared c d e first_mask_is second_mask_is product_is is
+
+-- ---- the slot of a product of masks
+
+module _ (w : World) (whole : IsWhole w) (before : BeforeSlot) (h : IsBeforeSlot w before) (t : ℕ) (is : slot w.plan before.session before.slot ≡ Mask_product t)
+    (masks : Gate) (masks_are : masks ≡ product_in (session w.plan before.session) (Mask_product t)) (a b : List ℕ)
+    (ha : a ≡ slice_index_or (session_words before.rows.now) masks.first []) (hb : b ≡ slice_index_or (session_words before.rows.now) masks.second []) where
+  first_read_is : a ≡ mask_row w before.session t First
+  first_read_is =
+      ha ∙ ap (λ (g : Gate). slice_index_or (session_words before.rows.now) g.first []) masks_are
+      ∙ masks_read w whole before.session before.slot h.in_session h.in_slot before.rows.now h.rows t First is
+
+  second_read_is : b ≡ mask_row w before.session t Second
+  second_read_is =
+      hb ∙ ap (λ (g : Gate). slice_index_or (session_words before.rows.now) g.second []) masks_are
+      ∙ masks_read w whole before.session before.slot h.in_session h.in_slot before.rows.now h.rows t Second is
+
+  pub masks_are_rows : IsRow w.plan a × IsRow w.plan b
+  masks_are_rows = (row_whole w.plan a _ first_read_is (mask_whole w whole before.session t First), row_whole w.plan b _ second_read_is (mask_whole w whole before.session t Second))
+
+  pub masks_set : (row : List ℕ) → row ≡ listed (length w.plan.groups) (product_summand (scheme w.plan) (dealt_at w before.places.now) (slice_index a) (slice_index b))
+      → SetsRow w before.session before.slot masks.output row
+  masks_set row e =
+      subst (λ (g : Gate). SetsRow w before.session before.slot g.output row) (sym masks_are)
+      (product_made w whole before.session before.slot h.in_session h.in_slot before.places.now h.places t a b row is first_read_is second_read_is e)

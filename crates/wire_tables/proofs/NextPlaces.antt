@@ -3,9 +3,9 @@ use Rattle.std.proofs.Common.{◌≡◌, ℕ, ◌+◌, ◌-◌, ◌<◌, ◌≤�
 use Rattle.std.proofs.lemmas.Bool.{cond-true, both_ways}
 use Rattle.list_laws.proofs.Totals.{total_more}
 use Rattle.list_laws.proofs.JoinedLists.{total_within}
-use Rattle.job_session.specs.Sessions.{Slot}
-use Rattle.job_session.specs.Sessions.Slot.{Input, At_gate, Output, Mask, Mask_product, Masked, Kept}
-use Rattle.job_session.specs.declared.side.Side.{Side}
+use Rattle.session_slots.specs.Sessions.{Slot}
+use Rattle.session_slots.specs.Sessions.Slot.{Input, At_gate, Output, Mask, Mask_product, Masked, Kept}
+use Rattle.session_slots.specs.declared.side.Side.{Side}
 use Rattle.job_plan.specs.Plans.{Plan, slot, slots, words, words_in, place, deals_in, least_held}
 use Rattle.job_plan.specs.Tallies.{tape_length}
 use Rattle.job_plan.proofs.PlanSchemes.{least_within}

@@ -7,14 +7,14 @@ use Rattle.std.proofs.lemmas.Bool.{cases_Bool, cases_eq, cond-true, cond-false, 
 use Rattle.std.proofs.lemmas.List.{length-map, ext_get_or}
 use Rattle.list_laws.specs.Lists.{some_below}
 use Rattle.list_laws.proofs.Tests.{or_false}
-use Rattle.job_session.specs.declared.side.Side.TheVariants.{First, Second}
-use Rattle.job_session.specs.Sessions.{Session, Slot, is_prepared, mask_wire, product_wire, row_names}
-use Rattle.job_session.specs.Sessions.Slot.{Mask, Mask_product}
-use Rattle.job_session.specs.SoundSessions.{Inside, IsWired}
-use Rattle.job_session.specs.SlotNumbers.{session_slot_number}
-use Rattle.job_session.specs.KeptWires.{sets_in, reads_in, slot_sets}
-use Rattle.job_session.proofs.KeptRows.{some_at}
-use Rattle.job_session.proofs.SessionSlots.{slot_there, slot_count, number_within}
+use Rattle.session_slots.specs.declared.side.Side.TheVariants.{First, Second}
+use Rattle.session_slots.specs.Sessions.{Session, Slot, is_prepared, mask_wire, product_wire, row_names}
+use Rattle.session_slots.specs.Sessions.Slot.{Mask, Mask_product}
+use Rattle.session_slots.specs.SoundSessions.{Inside, IsWired}
+use Rattle.session_slots.specs.SlotNumbers.{session_slot_number}
+use Rattle.session_slots.specs.KeptWires.{sets_in, reads_in, slot_sets}
+use Rattle.session_slots.proofs.KeptRows.{some_at}
+use Rattle.session_slots.proofs.SessionSlots.{slot_there, slot_count, number_within}
 use Rattle.job_plan.specs.Plans.{session, slot, slots}
 use Rattle.job_plan.specs.InputWords.{session_words}
 use Rattle.share_world.specs.Laws.{IsWhole}

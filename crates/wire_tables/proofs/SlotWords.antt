@@ -3,11 +3,11 @@ use Rattle.std.proofs.Common.{◌≡◌, ℕ, ◌+◌, ◌<◌, List, [], length
 use Rattle.std.specs.Prelude.{slice_index, slice_index_or}
 use Rattle.secret_sharing.specs.Schemes.{dealt, own_product, product_summand}
 use Rattle.secret_sharing.proofs.Agreement.{product_agrees}
-use Rattle.job_session.specs.declared.side.Side.{Side}
-use Rattle.job_session.specs.Sessions.{Slot}
-use Rattle.job_session.specs.Sessions.Slot.{Mask}
-use Rattle.job_session.specs.SoundSessions.{Inside}
-use Rattle.job_session.proofs.SessionSlots.{slots_are_numbered}
+use Rattle.session_slots.specs.declared.side.Side.{Side}
+use Rattle.session_slots.specs.Sessions.{Slot}
+use Rattle.session_slots.specs.Sessions.Slot.{Mask}
+use Rattle.session_slots.specs.SoundSessions.{Inside}
+use Rattle.session_slots.proofs.SessionSlots.{slots_are_numbered}
 use Rattle.job_plan.specs.Plans.{scheme, session, slot, slots, slot_number, place, holder_of, least_held}
 use Rattle.job_plan.proofs.PlanSchemes.{least_within}
 use Rattle.job_plan.proofs.Slots.{at_its_number}

@@ -9,11 +9,11 @@ use mathlib.Core.Logic.{inl, inr}
 use Rattle.list_laws.specs.Lists.{total, joined, listed}
 use Rattle.list_laws.proofs.JoinedLists.{length-joined, length-listed, listed_at, joined_place, locate}
 use Rattle.secret_sharing.specs.Schemes.{summands}
-use Rattle.job_session.specs.declared.side.Side.{Side}
-use Rattle.job_session.specs.declared.side.Side.TheVariants.{First, Second}
-use Rattle.job_session.specs.Sessions.{Session, is_prepared, mask_wire, product_wire, row_names}
-use Rattle.job_session.specs.Sessions.Slot.{Mask}
-use Rattle.job_session.proofs.RowNames.{direct_names}
+use Rattle.session_slots.specs.declared.side.Side.{Side}
+use Rattle.session_slots.specs.declared.side.Side.TheVariants.{First, Second}
+use Rattle.session_slots.specs.Sessions.{Session, is_prepared, mask_wire, product_wire, row_names}
+use Rattle.session_slots.specs.Sessions.Slot.{Mask}
+use Rattle.session_slots.proofs.RowNames.{direct_names}
 use Rattle.job_plan.specs.Plans.{Plan, session, holder_of, least_held}
 use Rattle.share_world.specs.Worlds.{World, run_of, mask, mask_product}
 use Rattle.share_world.specs.Laws.{IsWhole}

@@ -9,9 +9,9 @@ use Rattle.list_laws.specs.Lists.{listed}
 use Rattle.list_laws.proofs.JoinedLists.{length-listed, listed_at, listed_eq}
 use Rattle.circuit_model.specs.Circuits.{values}
 use Rattle.circuit_model.proofs.SetWires.{funext}
-use Rattle.job_session.specs.declared.source.Source.{Source}
-use Rattle.job_session.specs.declared.source.Source.TheVariants.{Given, Earlier}
-use Rattle.job_session.specs.Sessions.{Session, carries, gate, owners, source}
+use Rattle.session_slots.specs.declared.source.Source.{Source}
+use Rattle.session_slots.specs.declared.source.Source.TheVariants.{Given, Earlier}
+use Rattle.session_slots.specs.Sessions.{Session, carries, gate, owners, source}
 use Rattle.job_plan.specs.Plans.{session}
 use Rattle.job_plan.specs.Sound.{IsSound}
 use Rattle.job_plan.specs.InputWords.{AreInputs}

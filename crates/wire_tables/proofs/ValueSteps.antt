@@ -11,9 +11,9 @@ use Rattle.list_laws.proofs.JoinedLists.{total_within}
 use Rattle.circuit_model.specs.declared.gate.Gate.{Gate}
 use Rattle.circuit_model.specs.Circuits.{operate, set_at, values}
 use Rattle.circuit_model.proofs.SetAt.{set_here, set_there}
-use Rattle.job_session.specs.declared.source.Source.{Source}
-use Rattle.job_session.specs.declared.source.Source.TheVariants.{Given, Earlier}
-use Rattle.job_session.specs.Sessions.{given_by}
+use Rattle.session_slots.specs.declared.source.Source.{Source}
+use Rattle.session_slots.specs.declared.source.Source.TheVariants.{Given, Earlier}
+use Rattle.session_slots.specs.Sessions.{given_by}
 
 zeros : (m k : ℕ) → slice_index (replicate m 0) k ≡ 0
 zeros m k = elim (cases_lt k m) [

@@ -1,8 +1,8 @@
 -- What later sessions carry of a session, handed on to them: of each wire an item, which may be its summands or its
 -- value.
 use Rattle.std.specs.Prelude.{◌≡◌, ℕ, false}
-use Rattle.job_session.specs.Sessions.{carries, source}
-use Rattle.job_session.specs.declared.source.Source.TheVariants.{Earlier}
+use Rattle.session_slots.specs.Sessions.{carries, source}
+use Rattle.session_slots.specs.declared.source.Source.TheVariants.{Earlier}
 use Rattle.job_plan.specs.Plans.{Plan, session}
 use Rattle.share_world.specs.Worlds.{carried_wire}
 

@@ -2,8 +2,8 @@
 use Rattle.std.specs.Prelude.{◌≡◌, ℕ, ◌<◌, ◌^◌, nat_lt, if◌then◌else◌, All, List, [], ◌∷◌, length, replicate, slice_index_or, Option, Some, None}
 use Rattle.std.specs.Global.{Vec}
 use Rattle.list_laws.specs.Lists.{some_below}
-use Rattle.job_session.specs.Sessions.{row_names}
-use Rattle.job_session.specs.KeptWires.{sets_in, slot_sets}
+use Rattle.session_slots.specs.Sessions.{row_names}
+use Rattle.session_slots.specs.KeptWires.{sets_in, slot_sets}
 use Rattle.job_plan.specs.Plans.{Plan, session, slot, slots}
 use Rattle.job_plan.specs.InputWords.{session_words}
 use Rattle.share_world.specs.Worlds.{World}

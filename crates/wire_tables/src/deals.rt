@@ -1,7 +1,8 @@
-//! Who deals in a slot, and how many words it draws there.
+//! Who deals in a slot, who sends there, and how many words are drawn.
 ghost use Rattle.std.specs.Prelude.{◌≡◌, ◌<◌, length};
 ghost use Rattle.job_plan.specs.Plans.{deals_in, words_in, session};
-ghost use Rattle.job_session.specs.SoundSessions.{Inside, slot_of_kind};
+ghost use Rattle.session_slots.specs.SoundSessions.{Inside, slot_of_kind};
+ghost use Rattle.wire_tables.specs.SlotRows.{may_send};
 
 use job_plan::{Plan, SlotKind};
 
@@ -22,6 +23,20 @@ pub fn deals_in(plan: &Plan, s: u32, p: u32, kind: SlotKind) -> bool
         SlotKind::MaskProduct(_) => plan.multiplies(p),
         SlotKind::Output(_) | SlotKind::Mask(_, _) | SlotKind::Masked(_, _) | SlotKind::Kept(_) =>
             false,
+    }
+}
+
+/// Whether party `p` may send in a slot of session `s` that is of this kind.
+pub(crate) fn may_send(plan: &Plan, s: u32, p: u32, kind: SlotKind) -> bool
+    requires session { s < length plan.now.sessions }
+    requires party { p < plan.now.parties }
+    requires inside { Inside (session plan.now s) (slot_of_kind kind) }
+    ensures { result ≡ may_send plan.now s p (slot_of_kind kind) }
+{
+    match kind {
+        SlotKind::Output(_) | SlotKind::Mask(_, _) | SlotKind::Masked(_, _) | SlotKind::Kept(_) =>
+            true,
+        _ => deals_in(plan, s, p, kind),
     }
 }
 

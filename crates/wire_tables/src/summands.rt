@@ -1,7 +1,8 @@
 //! The summands of all wires of a session, and of the masks of its prepared products.
-ghost use Rattle.std.specs.Prelude.{◌≡◌, ◌<◌, IfOk, OnOk, length};
-ghost use Rattle.job_session.specs.Sessions.{gate};
-ghost use Rattle.job_session.specs.Sessions.Slot.{At_gate, Input};
+ghost use Rattle.std.specs.Prelude.{◌≡◌, ◌<◌, [], IfOk, OnOk, length, slice_index_or};
+ghost use Rattle.session_slots.specs.Sessions.{gate};
+ghost use Rattle.session_slots.specs.Sessions.Slot.{At_gate, Input};
+ghost use Rattle.job_plan.specs.InputWords.{session_words};
 ghost use Rattle.job_plan.specs.Plans.{session, slot};
 ghost use Rattle.share_world.specs.Laws.{IsWhole};
 ghost use Rattle.share_world.specs.Worlds.{World};
@@ -14,7 +15,7 @@ use crate::rows::{copy_into, deal_into, joined_into, linear_into, mask_into, pro
 use crate::values::input_list;
 use crate::world_data::WorldData;
 use job_plan::{Plan, SlotKind};
-use job_session::{Side, Source};
+use job_session::Source;
 use std::alloc::{AllocError, Global};
 use std::marker::Model;
 use std::mem::swap;
@@ -105,6 +106,14 @@ fn unset_rows(alloc: Global, plan: &Plan, s: u32) -> Result<Vec<Vec<u64>>, Alloc
     Ok(rows)
 }
 
+// The row of this name.
+fn row_of(rows: &[Vec<u64>], name: u32) -> &[u64]
+    requires { name < length rows.now }
+    ensures { result.now ≡ slice_index_or (session_words rows.now) name [] }
+{
+    &rows[name as usize]
+}
+
 // A slot of a session, and what is there before it: what is given on the session's inputs, what is carried of the
 // sessions before, where the parties' next words begin on their tapes, and the rows that the slots before have set.
 #[derive(Clone, Copy)]
@@ -141,10 +150,10 @@ fn slot_row(
             Ok(Some(part.mask_wire(t, side)))
         }
         SlotKind::MaskProduct(t) => {
-            let first = &rows[part.mask_wire(t, Side::First) as usize];
-            let second = &rows[part.mask_wire(t, Side::Second) as usize];
-            product_into(world, places, first, second, dealt, row)?;
-            Ok(Some(part.product_wire(t)))
+            let masks = part.product_of_masks(t);
+            let (a, b) = (row_of(rows, masks.first), row_of(rows, masks.second));
+            product_into(world, places, a, b, dealt, row)?;
+            Ok(Some(masks.output))
         }
         SlotKind::Gate(t) => {
             gate_row(world, before, t, dealt, row)?;
@@ -193,16 +202,14 @@ fn gate_row(
     let (plan, rows) = (world.plan, before.rows);
     let part = plan.part(before.session);
     let gate = part.gate(t);
-    let x = &rows[gate.first as usize];
-    let y = &rows[gate.second as usize];
+    let (x, y) = (row_of(rows, gate.first), row_of(rows, gate.second));
     if !gate.operation.is_product() {
         return linear_into(plan.ring(), gate, x, y, row);
     }
     if !part.is_prepared() {
         return product_into(world, before.places, x, y, dealt, row);
     }
-    let first = &rows[part.mask_wire(t, Side::First) as usize];
-    let second = &rows[part.mask_wire(t, Side::Second) as usize];
-    let product = &rows[part.product_wire(t) as usize];
-    joined_into(plan, x, y, first, second, product, row)
+    let masks = part.product_of_masks(t);
+    let (a, b) = (row_of(rows, masks.first), row_of(rows, masks.second));
+    joined_into(plan, x, y, a, b, row_of(rows, masks.output), row)
 }

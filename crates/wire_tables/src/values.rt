@@ -2,7 +2,7 @@
 ghost use Rattle.std.specs.Prelude.{◌≡◌, ℕ, ◌+◌, ◌-◌, ◌^◌, ◌<◌, ◌≤◌, ◌++◌, List, [], All, IfOk, OnOk, length, replicate, set, slice_index, slice_index_or};
 ghost use Rattle.list_laws.specs.Lists.{listed};
 ghost use Rattle.circuit_model.specs.Circuits.{operate, set_at, values};
-ghost use Rattle.job_session.specs.Sessions.{gate, owners};
+ghost use Rattle.session_slots.specs.Sessions.{gate, owners};
 ghost use Rattle.job_plan.specs.Plans.{session};
 ghost use Rattle.job_plan.specs.InputWords.{AreInputs, given, session_words};
 ghost use Rattle.wire_tables.specs.HandedOn.{IsHandedOn};

@@ -12,7 +12,7 @@ use mpc_ring::Ring;
 use mpc_top::command_alone;
 use outer_io::{MapFiles, NoPace, VecSink};
 use party_file::PartyData;
-use party_set::Names;
+use party_names::Names;
 use plain_eval::eval;
 use std::alloc::{AllocError, Global};
 use std::test::Fail;

@@ -2,7 +2,7 @@ use Rattle.std.proofs.Common.{◌≡◌, ◌∙◌, ap, sym, map, string_bytes, 
 use Rattle.std.specs.Option.{option_map}
 use Rattle.toml.specs.View.{table_view}
 use Rattle.toml_fields.specs.Fields.{texts_at}
-use Rattle.party_set.specs.Names.{names_fault}
+use Rattle.party_names.specs.Names.{names_fault}
 use Rattle.job_file.specs.declared.field.Field.TheVariants.{Parties}
 use Rattle.job_file.specs.declared.fault.JobFault.TheVariants.{Names}
 use Rattle.job_file.specs.Forms.{texts}

@@ -1,6 +1,6 @@
 use Rattle.std.proofs.Common.{◌≡◌, ◌*◌, ◌≤◌}
 use Rattle.list_laws.specs.Lists.{total}
-use Rattle.job_session.specs.Counts.{prepared_products}
+use Rattle.session_slots.specs.Counts.{prepared_products}
 use Rattle.job_plan.specs.Plans.{session}
 use Rattle.job_plan.proofs.counts.all_masks.Given as goal
 

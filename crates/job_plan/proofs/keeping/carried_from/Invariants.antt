@@ -1,7 +1,7 @@
 use Rattle.std.proofs.Common.{◌≡◌, length}
 use Rattle.list_laws.specs.Lists.{joined}
-use Rattle.job_session.specs.Sessions.{owners, session_at}
-use Rattle.job_session.specs.Carries.{kept_for}
+use Rattle.session_slots.specs.Sessions.{owners, session_at}
+use Rattle.session_slots.specs.Carries.{kept_for}
 use Rattle.job_plan.proofs.keeping.carried_from.Given as goal
 
 -- what the sessions so far carry

@@ -1,8 +1,8 @@
 use Rattle.std.proofs.Common.{◌≡◌, map}
 use Rattle.std.specs.Global.{Vec}
 use Rattle.list_laws.specs.Lists.{listed}
-use Rattle.job_session.specs.declared.values.KeptWire.{KeptWire}
-use Rattle.job_session.specs.Carries.{kept_from}
+use Rattle.session_slots.specs.declared.values.KeptWire.{KeptWire}
+use Rattle.session_slots.specs.Carries.{kept_from}
 use Rattle.job_plan.proofs.keeping.carried_wires.Given as goal
 
 -- of the sessions so far

@@ -1,8 +1,8 @@
 use Rattle.std.proofs.Common.{◌≡◌, ℕ, suc, ◌+◌, ◌<◌, ◌∷◌, [], length, sym, ap, ◌∙◌, subst, arith}
 use Rattle.std.specs.Prelude.{slice_index_or}
 use Rattle.list_laws.proofs.JoinedLists.{joined_step}
-use Rattle.job_session.specs.declared.values.OutputValue.{OutputValue}
-use Rattle.job_session.specs.Sessions.{Session, first_output}
+use Rattle.session_slots.specs.declared.values.OutputValue.{OutputValue}
+use Rattle.session_slots.specs.Sessions.{Session, first_output}
 use Rattle.job_plan.proofs.KeptSessions.{first_more, first_most}
 use Rattle.job_plan.proofs.keeping.first_outputs.Goals as goal
 

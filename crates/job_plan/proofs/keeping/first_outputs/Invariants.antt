@@ -1,6 +1,6 @@
 use Rattle.std.proofs.Common.{◌≡◌}
 use Rattle.list_laws.specs.Lists.{listed}
-use Rattle.job_session.specs.Sessions.{first_output}
+use Rattle.session_slots.specs.Sessions.{first_output}
 use Rattle.job_plan.proofs.keeping.first_outputs.Given as goal
 
 -- those of the values so far, and where the next one begins

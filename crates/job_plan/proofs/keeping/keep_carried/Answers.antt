@@ -6,10 +6,10 @@ use Rattle.std.proofs.lemmas.List.Elements.{All-push}
 use mathlib.Core.Logic.{inl, inr}
 use Rattle.list_laws.specs.Lists.{listed}
 use Rattle.list_laws.proofs.JoinedLists.{joined_step, length-listed, listed_at}
-use Rattle.job_session.specs.declared.values.KeptWire.{KeptWire}
-use Rattle.job_session.specs.Sessions.{Session, no_session, session_at}
-use Rattle.job_session.specs.Carries.{kept_from}
-use Rattle.job_session.specs.SoundSessions.{AreKept, IsSoundSession}
+use Rattle.session_slots.specs.declared.values.KeptWire.{KeptWire}
+use Rattle.session_slots.specs.Sessions.{Session, no_session, session_at}
+use Rattle.session_slots.specs.Carries.{kept_from}
+use Rattle.session_slots.specs.SoundSessions.{AreKept, IsSoundSession}
 use Rattle.job_plan.specs.Keeping.{AllFit}
 use Rattle.job_plan.proofs.KeptSessions.{are_kept}
 use Rattle.job_plan.proofs.keeping.keep_carried.Goals as goal

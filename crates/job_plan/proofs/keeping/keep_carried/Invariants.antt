@@ -1,10 +1,10 @@
 use Rattle.std.proofs.Common.{◌≡◌, ◌≤◌, ℕ, All, drop, length, map}
 use Rattle.std.specs.Global.{Vec}
 use Rattle.list_laws.specs.Lists.{listed}
-use Rattle.job_session.specs.declared.values.KeptWire.{KeptWire}
-use Rattle.job_session.specs.Sessions.{session_at}
-use Rattle.job_session.specs.Carries.{kept_from}
-use Rattle.job_session.specs.SoundSessions.{IsSoundSession}
+use Rattle.session_slots.specs.declared.values.KeptWire.{KeptWire}
+use Rattle.session_slots.specs.Sessions.{session_at}
+use Rattle.session_slots.specs.Carries.{kept_from}
+use Rattle.session_slots.specs.SoundSessions.{IsSoundSession}
 use Rattle.job_plan.proofs.keeping.keep_carried.Given as goal
 
 -- the sessions so far keep what is carried from them, and those that are left come with what is carried from them

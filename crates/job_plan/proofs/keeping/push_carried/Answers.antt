@@ -6,11 +6,11 @@ use Rattle.std.proofs.lemmas.List.{get_or_past}
 use mathlib.Core.Logic.{inl, inr}
 use Rattle.list_laws.specs.Lists.{joined}
 use Rattle.list_laws.proofs.JoinedLists.{joined_step, joined_step_none, length-listed, listed_at}
-use Rattle.job_session.specs.declared.source.Source.TheVariants.{Earlier}
-use Rattle.job_session.specs.Sessions.{Session, carries, first_output, no_session, readers, session_at, source}
-use Rattle.job_session.specs.Carries.{kept_for}
-use Rattle.job_session.specs.declared.values.KeptWire.{KeptWire}
-use Rattle.job_session.specs.SoundSessions.{IsWired}
+use Rattle.session_slots.specs.declared.source.Source.TheVariants.{Earlier}
+use Rattle.session_slots.specs.Sessions.{Session, carries, first_output, no_session, readers, session_at, source}
+use Rattle.session_slots.specs.Carries.{kept_for}
+use Rattle.session_slots.specs.declared.values.KeptWire.{KeptWire}
+use Rattle.session_slots.specs.SoundSessions.{IsWired}
 use Rattle.job_plan.specs.Keeping.{AllFit, first_outputs}
 use Rattle.job_plan.proofs.KeptSessions.{kept_here, kept_not, there, value_of, IsValueOf}
 use Rattle.job_plan.proofs.keeping.push_carried.Goals as goal

@@ -1,6 +1,6 @@
 use Rattle.std.proofs.Common.{◌≡◌, ◌++◌}
 use Rattle.list_laws.specs.Lists.{joined}
-use Rattle.job_session.specs.Carries.{kept_for}
+use Rattle.session_slots.specs.Carries.{kept_for}
 use Rattle.job_plan.proofs.keeping.push_carried.Given as goal
 
 -- what the wires so far carry

@@ -1,6 +1,6 @@
 use Rattle.std.proofs.Common.{◌≡◌, length, ap, ap₂, sym, ◌∙◌, arith}
 use Rattle.std.specs.Prelude.{slice_index}
-use Rattle.job_session.specs.Sessions.{session_slots}
+use Rattle.session_slots.specs.Sessions.{session_slots}
 use Rattle.job_plan.specs.Plans.{slots}
 use Rattle.job_plan.specs.Firsts.{session_starts}
 use Rattle.job_plan.proofs.SlotStarts.{first_after, start_at, starts_long}

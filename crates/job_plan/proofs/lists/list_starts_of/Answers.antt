@@ -1,5 +1,5 @@
 use Rattle.std.proofs.Common.{◌≡◌, ◌+◌, length, ap, ◌∙◌, arith}
-use Rattle.job_session.specs.Sessions.{session_slots}
+use Rattle.session_slots.specs.Sessions.{session_slots}
 use Rattle.job_plan.specs.Patterns.{transfers}
 use Rattle.job_plan.specs.Firsts.{first, count}
 use Rattle.job_plan.proofs.SlotMessages.{first_within}

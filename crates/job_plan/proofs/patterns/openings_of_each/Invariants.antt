@@ -1,6 +1,6 @@
 use Rattle.std.proofs.Common.{ℕ, ◌<◌, length}
 use Rattle.std.specs.Prelude.{slice_index}
-use Rattle.job_session.specs.Sessions.{readers}
+use Rattle.session_slots.specs.Sessions.{readers}
 use Rattle.job_plan.specs.Plans.{session}
 use Rattle.job_plan.specs.Tables.{HasOpening, AreOpenings}
 use Rattle.job_plan.proofs.patterns.openings_of_each.Given as goal

@@ -1,8 +1,8 @@
 use Rattle.std.proofs.Common.{◌≡◌, ◌+◌, ◌-◌, ◌<◌, length, ap, arith}
-use Rattle.job_session.specs.Sessions.{owners, readers, session_slots}
-use Rattle.job_session.specs.Wirings.{session_in}
+use Rattle.session_slots.specs.Sessions.{owners, readers, session_slots}
+use Rattle.session_slots.specs.Wirings.{session_in}
 use Rattle.job_session.proofs.ScannedBatches.{input_slot, output_slot, gate_slot, same_slots}
-use Rattle.job_session.proofs.WiringSlots.{wiring_count, owners_count}
+use Rattle.session_slots.proofs.WiringSlots.{wiring_count, owners_count}
 use Rattle.job_session.proofs.batch_scan.scan_direct.Goals as goal
 
 pub step-requires-clause-slot : goal.step-requires-clause-slot

@@ -1,6 +1,6 @@
 use Rattle.std.proofs.Common.{◌-◌}
 use Rattle.job_session.specs.BatchScans.{IsBatchScan}
-use Rattle.job_session.specs.Wirings.{session_in}
+use Rattle.session_slots.specs.Wirings.{session_in}
 use Rattle.job_session.proofs.batch_scan.scan_kinds.Given as goal
 
 -- the batches after the slots so far

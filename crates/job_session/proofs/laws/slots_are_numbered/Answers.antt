@@ -1,4 +1,4 @@
-use Rattle.job_session.proofs.SessionSlots.{slots_are_numbered}
+use Rattle.session_slots.proofs.SessionSlots.{slots_are_numbered}
 use Rattle.job_session.proofs.laws.slots_are_numbered.Goals as goal
 
 pub returns : goal.returns

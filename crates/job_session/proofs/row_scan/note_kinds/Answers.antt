@@ -2,10 +2,10 @@ use Rattle.std.proofs.Common.{◌<◌, ◌||◌, ap, sym, ◌∙◌, arith}
 use Rattle.std.specs.Prelude.{nat_eq}
 use Rattle.std.specs.List.{list_any}
 use Rattle.std.proofs.lemmas.Bool.{or_right}
-use Rattle.job_session.specs.Sessions.{Slot, session_slots}
-use Rattle.job_session.specs.KeptWires.{reads_in}
-use Rattle.job_session.specs.Wirings.{session_in, is_named}
-use Rattle.job_session.proofs.ScannedSlots.{reads_within}
+use Rattle.session_slots.specs.Sessions.{Slot, session_slots}
+use Rattle.session_slots.specs.KeptWires.{reads_in}
+use Rattle.session_slots.specs.Wirings.{session_in, is_named}
+use Rattle.session_slots.proofs.SlotReads.{reads_within}
 use Rattle.job_session.proofs.LastReads.{reads_noted}
 use Rattle.job_session.proofs.row_scan.note_kinds.Goals as goal
 

@@ -1,5 +1,5 @@
 use Rattle.job_session.specs.RowScans.{AreLastReads}
-use Rattle.job_session.specs.Wirings.{session_in}
+use Rattle.session_slots.specs.Wirings.{session_in}
 use Rattle.job_session.proofs.row_scan.note_kinds.Given as goal
 
 -- those of the slots so far

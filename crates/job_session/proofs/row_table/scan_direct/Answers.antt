@@ -1,8 +1,8 @@
 use Rattle.std.proofs.Common.{◌≡◌, ℕ, ◌+◌, length, ap, subst, arith}
-use Rattle.job_session.specs.Sessions.{session_slots}
+use Rattle.session_slots.specs.Sessions.{session_slots}
 use Rattle.job_session.specs.RowScans.{IsScan}
-use Rattle.job_session.specs.Wirings.{IsTouched, session_in}
-use Rattle.job_session.proofs.WiringSlots.{wiring_count}
+use Rattle.session_slots.specs.Wirings.{IsTouched, session_in}
+use Rattle.session_slots.proofs.WiringSlots.{wiring_count}
 use Rattle.job_session.proofs.row_table.scan_direct.Goals as goal
 
 pub step-requires-clause-slot : goal.step-requires-clause-slot

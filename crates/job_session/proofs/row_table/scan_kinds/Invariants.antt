@@ -1,5 +1,5 @@
 use Rattle.job_session.specs.RowScans.{IsScan}
-use Rattle.job_session.specs.Wirings.{session_in}
+use Rattle.session_slots.specs.Wirings.{session_in}
 use Rattle.job_session.proofs.row_table.scan_kinds.Given as goal
 
 -- the rows after the slots so far

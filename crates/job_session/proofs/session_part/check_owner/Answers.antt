@@ -2,8 +2,8 @@ use Rattle.std.proofs.Common.{◌≡◌, length, Some, None, sym, ◌∙◌, sub
 use Rattle.std.specs.Result.{MatchResult}
 use Rattle.std.specs.Prelude.{slice_get}
 use Rattle.std.proofs.lemmas.List.{get_or_default}
-use Rattle.job_session.specs.declared.values.Owner.{Owner}
-use Rattle.job_session.specs.Sessions.{Session, no_session, session_at}
+use Rattle.session_slots.specs.declared.values.Owner.{Owner}
+use Rattle.session_slots.specs.Sessions.{Session, no_session, session_at}
 use Rattle.job_session.specs.Parts.{carry_fault, owner_fault}
 use Rattle.job_session.proofs.session_part.check_owner.Goals as goal
 

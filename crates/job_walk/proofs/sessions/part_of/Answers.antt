@@ -2,7 +2,7 @@ use Rattle.std.proofs.Common.{◌≡◌, ℕ, List, length, map, All, sym, subst
 use Rattle.party_set.specs.Parties.{Members}
 use Rattle.job_file.specs.declared.owner.JobOwner.{JobOwner}
 use Rattle.job_file.specs.Owners.{IsOwner}
-use Rattle.job_session.specs.declared.values.Owner.{Owner}
+use Rattle.session_slots.specs.declared.values.Owner.{Owner}
 use Rattle.job_session.specs.Parts.{AreEarlier, AreOf, CarriesFit}
 use Rattle.job_walk.specs.JobOf.{owner_of}
 use Rattle.job_walk.proofs.CarriedValues.{owners_among, owners_earlier}

@@ -3,8 +3,8 @@ use Rattle.std.specs.declared.alloc.Global.{Global}
 use Rattle.std.proofs.Common.{◌≡◌, ℕ, List, Vec, get_or, map, ◌+◌, ◌∷◌, [], length, take, length-append, refl, sym, ap, subst, ◌∙◌, arith}
 use Rattle.std.proofs.lemmas.List.{take_all}
 use Rattle.std.proofs.lemmas.List.Elements.{All-nil, All-push, All-same}
-use Rattle.job_session.specs.SoundSessions.{IsSoundSession}
-use Rattle.job_session.specs.Sessions.{Session}
+use Rattle.session_slots.specs.SoundSessions.{IsSoundSession}
+use Rattle.session_slots.specs.Sessions.{Session}
 use Rattle.job_session.specs.Parts.{CarriesFit}
 use Rattle.job_plan.specs.Keeping.{AllFit}
 use Rattle.job_file.specs.declared.job.JobSession.{JobSession}

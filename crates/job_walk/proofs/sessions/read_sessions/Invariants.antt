@@ -1,8 +1,8 @@
 use Rattle.std.proofs.Common.{◌≡◌, All, [], length, drop, take, map, Result, Vec}
 use Rattle.std.specs.declared.alloc.Global.{Global}
 use Rattle.outer_io.specs.Files.{FilesReading}
-use Rattle.job_session.specs.Sessions.{Session}
-use Rattle.job_session.specs.SoundSessions.{IsSoundSession}
+use Rattle.session_slots.specs.Sessions.{Session}
+use Rattle.session_slots.specs.SoundSessions.{IsSoundSession}
 use Rattle.job_plan.specs.Keeping.{AllFit}
 use Rattle.job_file.specs.Jobs.{job_view, session_view}
 use Rattle.job_walk.specs.declared.stop.Stop.{Stop}

@@ -2,7 +2,7 @@ use Rattle.std.proofs.Common.{◌≡◌, [], length, sym, ap, arith}
 use Rattle.std.proofs.lemmas.Option.{get_or_from_slice_get}
 use Rattle.outer_io.proofs.GatheredTexts.{adds_nothing}
 use Rattle.list_laws.specs.Lists.{joined}
-use Rattle.party_set.specs.Names.{name_at}
+use Rattle.party_names.specs.Names.{name_at}
 use Rattle.text_parts.proofs.GatheredTexts.{adds_more, adds_same}
 use Rattle.node_text.specs.NodeText.{session_lines}
 use Rattle.node_text.proofs.lines.gather_outputs.Goals as goal

@@ -1,6 +1,6 @@
 use Rattle.list_laws.specs.Lists.{joined}
 use Rattle.outer_io.specs.Blocks.{Adds}
-use Rattle.party_set.specs.Names.{name_at}
+use Rattle.party_names.specs.Names.{name_at}
 use Rattle.node_text.specs.NodeText.{session_lines}
 use Rattle.node_text.proofs.lines.gather_outputs.Given as goal
 

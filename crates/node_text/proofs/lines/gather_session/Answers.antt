@@ -1,7 +1,7 @@
 use Rattle.std.proofs.Common.{◌+◌, length, refl, ap, ap₂, sym, ◌∙◌, arith}
 use Rattle.list_laws.proofs.Totals.{total_more}
-use Rattle.job_session.specs.declared.values.OutputValue.{OutputValue}
-use Rattle.job_session.specs.Sessions.{Session}
+use Rattle.session_slots.specs.declared.values.OutputValue.{OutputValue}
+use Rattle.session_slots.specs.Sessions.{Session}
 use Rattle.job_plan.specs.Plans.{session}
 use Rattle.view_text.specs.OutLines.{output_value}
 use Rattle.outer_io.proofs.GatheredTexts.{adds_nothing}

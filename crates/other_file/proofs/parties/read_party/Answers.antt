@@ -2,7 +2,7 @@ use Rattle.std.proofs.Common.{◌≡◌, ◌⊎◌, [], map, Some, sym, ◌∙�
 use Rattle.std.proofs.lemmas.Option.{get_or_from_slice_get}
 use Rattle.toml.specs.View.{view, table_view}
 use Rattle.toml_fields.specs.Fields.{text_of, texts_at}
-use Rattle.party_set.specs.Names.{name_at}
+use Rattle.party_names.specs.Names.{name_at}
 use Rattle.party_file.proofs.FaultRows.{texts_at-items}
 use Rattle.other_file.specs.Table.{party_fault}
 use Rattle.other_file.specs.declared.fault.OtherFault.TheVariants.{Memory}

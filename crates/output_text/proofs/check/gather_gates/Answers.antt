@@ -1,6 +1,6 @@
 use Rattle.std.proofs.Common.{◌++◌, ap, ◌∙◌, length}
 use Rattle.std.specs.Prelude.{codes, decimal}
-use Rattle.job_session.specs.Sessions.{Session}
+use Rattle.session_slots.specs.Sessions.{Session}
 use Rattle.outer_io.proofs.GatheredTexts.{adds_then}
 use Rattle.text_parts.proofs.GatheredTexts.{adds_same}
 use Rattle.output_text.proofs.check.gather_gates.Goals as goal

@@ -3,7 +3,7 @@ use Rattle.std.specs.Prelude.{codes}
 use Rattle.list_laws.specs.Lists.{joined}
 use Rattle.outer_io.proofs.GatheredTexts.{adds_then}
 use Rattle.text_parts.proofs.GatheredTexts.{adds_same}
-use Rattle.job_session.specs.Counts.{products}
+use Rattle.session_slots.specs.Counts.{products}
 use Rattle.job_plan.specs.Plans.{Plan, session}
 use Rattle.job_plan.specs.Messages.{messages}
 use Rattle.output_text.specs.CheckText.{count_line, words_line}

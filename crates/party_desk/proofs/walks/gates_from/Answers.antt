@@ -1,5 +1,5 @@
 use Rattle.std.proofs.Common.{◌≡◌, ℕ, ◌+◌, ◌-◌, ◌<◌, ◌≤◌, length, sym, ap, ◌∙◌, arith}
-use Rattle.job_session.specs.Sessions.{gate}
+use Rattle.session_slots.specs.Sessions.{gate}
 use Rattle.party_desk.specs.Rows.{gate_in}
 use Rattle.party_desk.proofs.GateRuns.{direct_run}
 use Rattle.party_desk.proofs.walks.gates_from.Goals as goal

@@ -1,7 +1,7 @@
 use Rattle.std.proofs.Common.{◌≡◌, ℕ, ◌+◌, ◌<◌, ◌≤◌, length, sym, ap, ◌∙◌, arith}
-use Rattle.job_session.specs.Sessions.{gate}
-use Rattle.job_session.specs.SlotNumbers.{session_slot_number}
-use Rattle.job_session.proofs.SessionSlots.{slots_are_numbered}
+use Rattle.session_slots.specs.Sessions.{gate}
+use Rattle.session_slots.specs.SlotNumbers.{session_slot_number}
+use Rattle.session_slots.proofs.SessionSlots.{slots_are_numbered}
 use Rattle.party_desk.specs.Rows.{gate_in}
 use Rattle.party_desk.proofs.GateRuns.{listed_run}
 use Rattle.party_desk.proofs.walks.listed_gates.Goals as goal

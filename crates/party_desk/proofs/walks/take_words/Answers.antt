@@ -1,6 +1,6 @@
 use Rattle.std.proofs.Common.{◌≡◌, ℕ, ◌+◌, ◌-◌, ◌<◌, length, slice_get, refl, sym, ◌∙◌, subst, arith}
 use Rattle.std.proofs.lemmas.Option.{slice_get_within}
-use Rattle.job_session.specs.KeptWires.{sets_in}
+use Rattle.session_slots.specs.KeptWires.{sets_in}
 use Rattle.job_plan.specs.Plans.{Plan, session}
 use Rattle.message_board.specs.declared.steps.View.{View}
 use Rattle.message_board.specs.Pairs.{Knows}

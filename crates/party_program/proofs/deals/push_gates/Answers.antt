@@ -5,10 +5,10 @@ use Rattle.list_laws.proofs.JoinedLists.{total_within}
 use Rattle.circuit_model.specs.Circuits.{is_product}
 use Rattle.circuit_model.specs.declared.gate.Gate.{Gate}
 use Rattle.secret_sharing.specs.Schemes.{has_pair}
-use Rattle.job_session.specs.Sessions.{Session, owners, gate, no_gate, is_prepared, session_slot}
-use Rattle.job_session.specs.Sessions.Slot.{At_gate}
-use Rattle.job_session.specs.SlotNumbers.{session_slot_number}
-use Rattle.job_session.proofs.SessionSlots.{slot_count, slot_there}
+use Rattle.session_slots.specs.Sessions.{Session, owners, gate, no_gate, is_prepared, session_slot}
+use Rattle.session_slots.specs.Sessions.Slot.{At_gate}
+use Rattle.session_slots.specs.SlotNumbers.{session_slot_number}
+use Rattle.session_slots.proofs.SessionSlots.{slot_count, slot_there}
 use Rattle.job_plan.specs.declared.pattern.Pattern.TheVariants.{Silent, Multiplied}
 use Rattle.job_plan.proofs.PlanSchemes.{plan_is}
 use Rattle.job_plan.specs.Plans.{IsPlan, Plan, scheme, session, slot, slots, deals_in}

@@ -1,5 +1,5 @@
 use Rattle.std.proofs.Common.{◌+◌, length}
-use Rattle.job_session.specs.Sessions.{owners}
+use Rattle.session_slots.specs.Sessions.{owners}
 use Rattle.job_plan.specs.Plans.{session}
 use Rattle.party_program.specs.ProgramPlaces.{AreDeals}
 use Rattle.party_program.proofs.deals.push_gates.Given as goal

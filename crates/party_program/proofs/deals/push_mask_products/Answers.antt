@@ -1,6 +1,6 @@
 use Rattle.std.proofs.Common.{ℕ, ◌+◌, ◌*◌, true, false, ◌&&◌, length, sym, ap₂, arith}
-use Rattle.job_session.specs.SlotNumbers.{prepared_before}
-use Rattle.job_session.proofs.SessionSlots.{ahead_product}
+use Rattle.session_slots.specs.SlotNumbers.{prepared_before}
+use Rattle.session_slots.proofs.SessionSlots.{ahead_product}
 use Rattle.party_program.specs.ProgramPlaces.{session_of}
 use Rattle.party_program.proofs.PreparedSlots.{found_there, found_product, in_mask_product, next_prepared, same_deals}
 use Rattle.party_program.proofs.deals.push_mask_products.Goals as goal

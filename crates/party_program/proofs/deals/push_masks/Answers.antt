@@ -1,6 +1,6 @@
 use Rattle.std.proofs.Common.{ℕ, ◌+◌, ◌*◌, true, false, ◌&&◌, sym, ap₂, arith}
-use Rattle.job_session.specs.SlotNumbers.{prepared_before}
-use Rattle.job_session.proofs.SessionSlots.{ahead_first}
+use Rattle.session_slots.specs.SlotNumbers.{prepared_before}
+use Rattle.session_slots.proofs.SessionSlots.{ahead_first}
 use Rattle.party_program.specs.ProgramPlaces.{session_of}
 use Rattle.party_program.proofs.PreparedSlots.{found_there, found_product, in_masks, next_prepared, same_deals}
 use Rattle.party_program.proofs.deals.push_masks.Goals as goal

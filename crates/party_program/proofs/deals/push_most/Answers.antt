@@ -1,7 +1,7 @@
 use Rattle.std.proofs.Common.{length, sym, ap, ◌∙◌, arith}
 use Rattle.circuit_model.specs.declared.gate.Gate.{Gate}
-use Rattle.job_session.specs.Sessions.{Session, session_slots}
-use Rattle.job_session.proofs.SessionSlots.{direct_count, slot_count}
+use Rattle.session_slots.specs.Sessions.{Session, session_slots}
+use Rattle.session_slots.proofs.SessionSlots.{direct_count, slot_count}
 use Rattle.job_plan.specs.Plans.{session}
 use Rattle.party_program.proofs.deals.push_most.Goals as goal
 

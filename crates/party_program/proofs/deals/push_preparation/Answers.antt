@@ -1,5 +1,5 @@
 use Rattle.std.proofs.Common.{sym, ap, ◌∙◌}
-use Rattle.job_session.specs.Sessions.{Session}
+use Rattle.session_slots.specs.Sessions.{Session}
 use Rattle.party_program.proofs.deals.push_preparation.Goals as goal
 
 pub push_masks-requires-clause-ahead : goal.push_masks-requires-clause-ahead

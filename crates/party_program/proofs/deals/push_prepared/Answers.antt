@@ -1,6 +1,6 @@
 use Rattle.std.proofs.Common.{ap, arith}
-use Rattle.job_session.specs.Sessions.{session_slots}
-use Rattle.job_session.proofs.SessionSlots.{slot_count}
+use Rattle.session_slots.specs.Sessions.{session_slots}
+use Rattle.session_slots.proofs.SessionSlots.{slot_count}
 use Rattle.party_program.proofs.deals.push_prepared.Goals as goal
 
 pub push_slots-requires-clause-slots : goal.push_slots-requires-clause-slots

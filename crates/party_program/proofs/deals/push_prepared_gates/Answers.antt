@@ -1,5 +1,5 @@
 use Rattle.std.proofs.Common.{ℕ, ◌+◌, true, false, ◌&&◌, refl, ap₂}
-use Rattle.job_session.specs.SlotNumbers.{first_of_gate}
+use Rattle.session_slots.specs.SlotNumbers.{first_of_gate}
 use Rattle.party_program.specs.ProgramPlaces.{session_of}
 use Rattle.party_program.proofs.PreparedSlots.{found_there, found_product, in_gate, in_linear, next_gate, same_deals}
 use Rattle.party_program.proofs.deals.push_prepared_gates.Goals as goal

@@ -1,4 +1,4 @@
-use Rattle.job_session.specs.SlotNumbers.{first_of_gate}
+use Rattle.session_slots.specs.SlotNumbers.{first_of_gate}
 use Rattle.party_program.specs.ProgramPlaces.{AreDealsTo, session_of}
 use Rattle.party_program.proofs.deals.push_prepared_gates.Given as goal
 

@@ -1,5 +1,5 @@
 use Rattle.std.proofs.Common.{◌*◌}
-use Rattle.job_session.specs.SlotNumbers.{prepared_before}
+use Rattle.session_slots.specs.SlotNumbers.{prepared_before}
 use Rattle.party_program.specs.ProgramPlaces.{AreDealsTo, session_of}
 use Rattle.party_program.proofs.deals.push_turns.Given as goal
 

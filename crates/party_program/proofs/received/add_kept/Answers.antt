@@ -2,13 +2,13 @@ use Rattle.std.proofs.Common.{◌≡◌, ◌≢◌, ℕ, ◌+◌, ◌<◌, true,
 use Rattle.std.specs.Prelude.{Option, Some, slice_index_or, if◌then◌else◌}
 use Rattle.indexmap.specs.IndexMap.{get}
 use Rattle.std.proofs.lemmas.Bool.{cases_eq, cases_lt, cond-true, cond-false, eq-eqb, eqb-true, ne_eqb}
-use Rattle.job_session.specs.declared.source.Source.TheVariants.{Earlier}
-use Rattle.job_session.specs.declared.values.KeptWire.{KeptWire}
-use Rattle.job_session.specs.Sessions.{Session, carries, no_kept, owners, readers, session_at, source}
-use Rattle.job_session.specs.Carries.{IsKeptAt, kept_from, kept_place}
-use Rattle.job_session.specs.SlotNumbers.{first_input, first_of_gate}
+use Rattle.session_slots.specs.declared.source.Source.TheVariants.{Earlier}
+use Rattle.session_slots.specs.declared.values.KeptWire.{KeptWire}
+use Rattle.session_slots.specs.Sessions.{Session, carries, no_kept, owners, readers, session_at, source}
+use Rattle.session_slots.specs.Carries.{IsKeptAt, kept_from, kept_place}
+use Rattle.session_slots.specs.SlotNumbers.{first_input, first_of_gate}
 use Rattle.job_session.proofs.Carries.{kept_have_places}
-use Rattle.job_session.proofs.SessionSlots.{slots_are_numbered}
+use Rattle.session_slots.proofs.SessionSlots.{slots_are_numbered}
 use Rattle.job_plan.specs.Plans.{IsPlan, Plan, keeping_slot, session, slots}
 use Rattle.job_plan.specs.Firsts.{first}
 use Rattle.job_plan.proofs.KeptPlaces.{kept_in}

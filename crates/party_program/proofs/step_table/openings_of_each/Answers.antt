@@ -1,7 +1,7 @@
 use Rattle.std.proofs.Common.{rules, ◌≡◌, ℕ, ◌+◌, ◌≤◌, length, ap, ◌∙◌, arith}
-use Rattle.job_session.specs.Sessions.{Session, readers}
-use Rattle.job_session.specs.SlotNumbers.{first_of_gate}
-use Rattle.job_session.proofs.SessionSlots.{slots_are_numbered}
+use Rattle.session_slots.specs.Sessions.{Session, readers}
+use Rattle.session_slots.specs.SlotNumbers.{first_of_gate}
+use Rattle.session_slots.proofs.SessionSlots.{slots_are_numbered}
 use Rattle.job_plan.specs.Plans.{Plan, session, slots}
 use Rattle.job_plan.proofs.Slots.{few_slots}
 use Rattle.party_program.proofs.OccurringPatterns.{first_output, opened_last}

@@ -1,6 +1,6 @@
 use Rattle.std.proofs.Common.{◌≡◌, ℕ, List, [], ◌∷◌, sym, subst, ap, ap₂, ◌∙◌}
 use Rattle.party_set.specs.Parties.{Structure}
-use Rattle.job_session.specs.Sessions.{Session}
+use Rattle.session_slots.specs.Sessions.{Session}
 use Rattle.job_plan.specs.Keeping.{AllFit, keeping}
 use Rattle.job_plan.specs.Plans.{plan_of}
 use Rattle.job_plan.specs.Multiply.{three_parties}

@@ -1,7 +1,7 @@
 use Rattle.std.proofs.Common.{◌≡◌, ◌&&◌, not, nat_eq, true, false, [], ◌∷◌, Some, sym, ap, ap₂, ◌∙◌, arith}
 use Rattle.std.specs.Prelude.{slice_index}
 use Rattle.party_set.specs.Parties.{has_party}
-use Rattle.job_session.specs.Sessions.{Session, readers, output_wire}
+use Rattle.session_slots.specs.Sessions.{Session, readers, output_wire}
 use Rattle.job_plan.specs.Plans.{session, reads}
 use Rattle.tape_map.specs.MapFaults.{output_check}
 use Rattle.tape_map.specs.declared.fault.MapFault.TheVariants.{OutputDiffers}

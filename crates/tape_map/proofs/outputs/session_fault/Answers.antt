@@ -2,7 +2,7 @@ use Rattle.std.proofs.Common.{◌≡◌, ℕ, List, Option, Some, None, length, 
 use Rattle.std.specs.Prelude.{slice_index}
 use Rattle.list_laws.specs.Lists.{listed}
 use Rattle.list_laws.specs.Checks.{first_fault}
-use Rattle.job_session.specs.Sessions.{Session, readers, output_wire}
+use Rattle.session_slots.specs.Sessions.{Session, readers, output_wire}
 use Rattle.job_plan.specs.Plans.{session}
 use Rattle.tape_map.specs.MapFaults.{output_check}
 use Rattle.tape_map.specs.declared.fault.MapFault.{MapFault}

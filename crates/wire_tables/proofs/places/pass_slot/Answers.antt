@@ -1,6 +1,6 @@
 use Rattle.std.proofs.Common.{◌≡◌, ap, ◌∙◌, arith}
-use Rattle.job_session.specs.Sessions.{session_slot}
-use Rattle.job_session.specs.SoundSessions.{slot_of_kind}
+use Rattle.session_slots.specs.Sessions.{session_slot}
+use Rattle.session_slots.specs.SoundSessions.{slot_of_kind}
 use Rattle.job_plan.specs.Plans.{slot, words_in}
 use Rattle.wire_tables.proofs.NextPlaces.{place_within}
 use Rattle.wire_tables.proofs.places.pass_slot.Goals as goal

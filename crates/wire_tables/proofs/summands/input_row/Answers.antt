@@ -4,9 +4,9 @@ use Rattle.std.proofs.lemmas.Bool.{cases_lt, eq-eqb}
 use Rattle.std.proofs.lemmas.List.{get_or_past}
 use Rattle.std.proofs.lemmas.Result.{on_ok_weaker}
 use Rattle.list_laws.proofs.JoinedLists.{length-listed, listed_at}
-use Rattle.job_session.specs.declared.source.Source.TheVariants.{Given, Earlier}
-use Rattle.job_session.specs.Sessions.{Session, given_by, owners, source}
-use Rattle.job_session.specs.Sessions.Slot.{Input}
+use Rattle.session_slots.specs.declared.source.Source.TheVariants.{Given, Earlier}
+use Rattle.session_slots.specs.Sessions.{Session, given_by, owners, source}
+use Rattle.session_slots.specs.Sessions.Slot.{Input}
 use Rattle.job_plan.specs.Plans.{deals_in, session, slot}
 use Rattle.share_world.specs.Worlds.{World, carried_wire, end_summands, input_of, source_input}
 use Rattle.wire_tables.specs.WireTables.{world_of}

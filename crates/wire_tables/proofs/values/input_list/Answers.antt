@@ -2,8 +2,8 @@ use Rattle.std.proofs.Common.{◌≡◌, ℕ, ◌+◌, ◌<◌, [], length, set,
 use Rattle.std.specs.Prelude.{slice_index}
 use Rattle.std.specs.Global.{Vec}
 use Rattle.std.proofs.lemmas.List.{with_items_is}
-use Rattle.job_session.specs.declared.source.Source.TheVariants.{Given}
-use Rattle.job_session.specs.Sessions.{Session, owners, source}
+use Rattle.session_slots.specs.declared.source.Source.TheVariants.{Given}
+use Rattle.session_slots.specs.Sessions.{Session, owners, source}
 use Rattle.job_plan.specs.InputWords.{given}
 use Rattle.job_plan.specs.Plans.{session, given_before, input_count}
 use Rattle.job_plan.proofs.GrownLists.{listed_push}

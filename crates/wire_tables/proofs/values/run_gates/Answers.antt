@@ -5,7 +5,7 @@ use Rattle.std.proofs.lemmas.Bool.{cases_lt}
 use Rattle.std.proofs.lemmas.List.{length-replicate, get_or_default, with_items_is}
 use Rattle.circuit_model.specs.declared.gate.Gate.{Gate}
 use Rattle.circuit_model.specs.Circuits.{operate, set_at, values}
-use Rattle.job_session.specs.Sessions.{Session, gate}
+use Rattle.session_slots.specs.Sessions.{Session, gate}
 use Rattle.job_plan.specs.Plans.{session}
 use Rattle.wire_tables.proofs.ListedRows.{listed_of}
 use Rattle.wire_tables.proofs.ValueSteps.{padded, value_next}

@@ -6,7 +6,7 @@ use Rattle.std.proofs.lemmas.List.{length-map, map-set, with_items_is}
 use Rattle.list_laws.specs.Lists.{listed}
 use Rattle.list_laws.proofs.JoinedLists.{length-listed}
 use Rattle.circuit_model.specs.Circuits.{values}
-use Rattle.job_session.specs.Sessions.{Session, gate, owners}
+use Rattle.session_slots.specs.Sessions.{Session, gate, owners}
 use Rattle.job_plan.specs.InputWords.{session_words}
 use Rattle.job_plan.specs.Plans.{session}
 use Rattle.share_world.specs.Worlds.{World, first_values, plain, values_before}

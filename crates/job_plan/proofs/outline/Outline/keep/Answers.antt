@@ -1,7 +1,7 @@
 use Rattle.std.proofs.Common.{ℕ, ◌<◌, List, length, sym, ap, subst, All, arith}
 use Rattle.std.proofs.lemmas.List.Elements.{All-from_get_or}
-use Rattle.job_session.specs.Sessions.{Session, no_session, session_at}
-use Rattle.job_session.specs.SoundSessions.{IsSoundSession}
+use Rattle.session_slots.specs.Sessions.{Session, no_session, session_at}
+use Rattle.session_slots.specs.SoundSessions.{IsSoundSession}
 use Rattle.job_plan.specs.Keeping.{AllFit}
 use Rattle.job_plan.proofs.KeptSessions.{keeping_fits, length_keeping}
 use Rattle.job_plan.proofs.outline.Outline.keep.Goals as goal

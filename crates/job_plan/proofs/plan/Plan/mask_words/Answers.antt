@@ -1,7 +1,7 @@
 use Rattle.std.proofs.Common.{◌≡◌, ◌*◌, ◌≤◌, length, sym, ap, ap₂, ◌∙◌, inl, inr, arith}
 use Rattle.std.proofs.lemmas.Bool.{cases_Bool}
 use Rattle.secret_sharing.specs.Schemes.{has_pair}
-use Rattle.job_session.specs.Counts.{prepared_products}
+use Rattle.session_slots.specs.Counts.{prepared_products}
 use Rattle.job_plan.specs.Plans.{Plan, session, scheme, least_held}
 use Rattle.job_plan.specs.Numbers.{deal_slot, masks_before}
 use Rattle.job_plan.proofs.SlotSums.{one}

@@ -3,7 +3,7 @@ use Rattle.std.specs.Prelude.{slice_index}
 use Rattle.std.specs.List.Sorted.{IsNonDecreasing}
 use Rattle.list_laws.proofs.JoinedLists.{length-listed}
 use Rattle.job_plan.specs.Plans.{session, slots}
-use Rattle.job_session.specs.SoundSessions.{IsSoundSession}
+use Rattle.session_slots.specs.SoundSessions.{IsSoundSession}
 use Rattle.job_plan.specs.Firsts.{session_starts, starts_of}
 use Rattle.job_plan.proofs.SlotStarts.{start_at, starts_long, starts_rise}
 use Rattle.job_plan.proofs.GrownLists.{row_is}

@@ -1,7 +1,7 @@
 use Rattle.std.proofs.Common.{◌≡◌, ◌-◌, true, ◌||◌, inl, inr, ◌∙◌, ap, arith}
 use Rattle.std.proofs.lemmas.Bool.{or_left, or_right, or_from}
-use Rattle.job_session.specs.Wirings.{session_in, is_named}
-use Rattle.job_session.proofs.RowNames.{few_slots}
+use Rattle.session_slots.specs.Wirings.{session_in, is_named}
+use Rattle.session_slots.proofs.RowNames.{few_slots}
 use Rattle.job_session.proofs.BatchOrder.{batch_within}
 use Rattle.job_session.proofs.ScannedBatches.{early_within, batch_by_stamps, batch_begins, batch_goes_on}
 use Rattle.job_session.proofs.batch_scan.BatchScan.begin.Goals as goal

@@ -1,7 +1,7 @@
 use Rattle.std.proofs.Common.{◌+◌, ◌<◌, ◌||◌, length, sym, ap, ◌∙◌, arith, length-set}
 use Rattle.std.specs.Prelude.{slice_index, if◌then◌else◌}
 use Rattle.std.proofs.lemmas.Grind.{common_steps}
-use Rattle.job_session.specs.Wirings.{is_named}
+use Rattle.session_slots.specs.Wirings.{is_named}
 use Rattle.job_session.proofs.HeldRows.{named_some}
 use Rattle.job_session.proofs.LastReads.{one_written}
 use Rattle.job_session.proofs.ScannedBatches.{slot_done}

@@ -1,6 +1,6 @@
 use Rattle.std.proofs.Common.{◌≡◌, ℕ, ◌-◌, ◌++◌, length, replicate, subst, arith}
-use Rattle.job_session.specs.Sessions.{session_slots}
-use Rattle.job_session.specs.Wirings.{session_in}
+use Rattle.session_slots.specs.Sessions.{session_slots}
+use Rattle.session_slots.specs.Wirings.{session_in}
 use Rattle.job_session.proofs.BatchOrder.{batch_within}
 use Rattle.job_session.proofs.ScannedBatches.{all_ends}
 use Rattle.job_session.proofs.batch_scan.BatchScan.into_ends.Goals as goal

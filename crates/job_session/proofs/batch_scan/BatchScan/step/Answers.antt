@@ -1,8 +1,8 @@
 use Rattle.std.proofs.Common.{◌-◌, ◌&&◌, ◌∙◌, sym, ap, arith}
-use Rattle.job_session.specs.Batches.{sets_early}
-use Rattle.job_session.specs.Sessions.{session_slot}
-use Rattle.job_session.specs.Wirings.{session_in}
-use Rattle.job_session.proofs.RowNames.{few_slots}
+use Rattle.session_slots.specs.EarlyWires.{sets_early}
+use Rattle.session_slots.specs.Sessions.{session_slot}
+use Rattle.session_slots.specs.Wirings.{session_in}
+use Rattle.session_slots.proofs.RowNames.{few_slots}
 use Rattle.job_session.proofs.BatchOrder.{batch_within}
 use Rattle.job_session.proofs.ScannedBatches.{completes_within, no_join, none_join}
 use Rattle.job_session.proofs.batch_scan.BatchScan.step.Goals as goal

@@ -1,7 +1,7 @@
 use Rattle.std.proofs.Common.{◌∙◌, sym, arith}
-use Rattle.job_session.specs.Sessions.{session_slot}
-use Rattle.job_session.specs.Wirings.{session_in}
-use Rattle.job_session.proofs.RowNames.{few_slots}
+use Rattle.session_slots.specs.Sessions.{session_slot}
+use Rattle.session_slots.specs.Wirings.{session_in}
+use Rattle.session_slots.proofs.RowNames.{few_slots}
 use Rattle.job_session.proofs.BatchOrder.{batch_within}
 use Rattle.job_session.proofs.ScannedBatches.{completes_within, no_join}
 use Rattle.job_session.proofs.batch_scan.BatchScan.step_gate.Goals as goal

@@ -1,6 +1,6 @@
 use Rattle.std.proofs.Common.{arith}
-use Rattle.job_session.specs.Wirings.{session_in}
-use Rattle.job_session.proofs.RowNames.{few_slots}
+use Rattle.session_slots.specs.Wirings.{session_in}
+use Rattle.session_slots.proofs.RowNames.{few_slots}
 use Rattle.job_session.proofs.BatchOrder.{batch_within}
 use Rattle.job_session.proofs.batch_scan.BatchScan.step_kind.Goals as goal
 

@@ -1,7 +1,7 @@
 use Rattle.std.proofs.Common.{true, sym, subst}
-use Rattle.job_session.specs.Sessions.{Session}
-use Rattle.job_session.specs.SoundSessions.{IsSoundSession}
-use Rattle.job_session.specs.Wirings.{session_in}
+use Rattle.session_slots.specs.Sessions.{Session}
+use Rattle.session_slots.specs.SoundSessions.{IsSoundSession}
+use Rattle.session_slots.specs.Wirings.{session_in}
 use Rattle.job_session.proofs.CircuitSessions.{sound_as, sound_with}
 use Rattle.job_session.proofs.session_part.SessionPart.prepare.Goals as goal
 

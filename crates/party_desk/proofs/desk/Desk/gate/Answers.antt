@@ -1,5 +1,5 @@
 use Rattle.std.proofs.Common.{sym, ap, ◌∙◌, subst}
-use Rattle.job_session.specs.Sessions.{Session, product_in, session_slot}
+use Rattle.session_slots.specs.Sessions.{Session, product_in, session_slot}
 use Rattle.party_desk.specs.Memories.{GateWithin}
 use Rattle.party_desk.proofs.NamedRows.{slot_within_rows}
 use Rattle.party_desk.proofs.desk.Desk.gate.Goals as goal

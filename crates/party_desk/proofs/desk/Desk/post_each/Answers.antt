@@ -1,5 +1,5 @@
 use Rattle.std.proofs.Common.{◌≡◌, ℕ, ◌+◌, ◌-◌, ◌<◌, length, Some, sym, ap, ◌∙◌, subst, arith}
-use Rattle.job_session.specs.Sessions.{row_names}
+use Rattle.session_slots.specs.Sessions.{row_names}
 use Rattle.job_plan.specs.Plans.{session}
 use Rattle.party_desk.specs.Walks.{IsSending, Sends}
 use Rattle.party_desk.proofs.GatePosts.{head_few, head_listed, head_two, is_post, none_sent, post_is, post_next, post_sent, post_share, post_start, post_word, posted_on, sent_few, sent_within}

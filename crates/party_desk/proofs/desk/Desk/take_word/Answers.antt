@@ -1,6 +1,6 @@
 use Rattle.std.proofs.Common.{length, sym, ap₂, ◌∙◌, subst}
-use Rattle.job_session.specs.KeptWires.{sets_in}
-use Rattle.job_session.specs.Sessions.{session_slot}
+use Rattle.session_slots.specs.KeptWires.{sets_in}
+use Rattle.session_slots.specs.Sessions.{session_slot}
 use Rattle.job_plan.specs.Plans.{session}
 use Rattle.party_program.specs.States.{taking_slot, took_in}
 use Rattle.party_desk.specs.Memories.{state_of, row_of, on_rows, Alike}

@@ -4,9 +4,9 @@ use Rattle.std.specs.Arc.{arc_value}
 use Rattle.std.proofs.lemmas.Nat.{mul-le}
 use Rattle.circuit_model.specs.declared.gate.Gate.{Gate}
 use Rattle.job_session.specs.declared.row_table.RowTable.{RowTable}
-use Rattle.job_session.specs.declared.side.Side.TheVariants.{First, Second}
-use Rattle.job_session.specs.Sessions.{gate, mask_wire, product_wire, Session}
-use Rattle.job_session.proofs.RowNames.{mask_within, product_named}
+use Rattle.session_slots.specs.declared.side.Side.TheVariants.{First, Second}
+use Rattle.session_slots.specs.Sessions.{gate, mask_wire, product_wire, Session}
+use Rattle.session_slots.proofs.RowNames.{mask_within, product_named}
 use Rattle.job_plan.specs.Plans.{session}
 use Rattle.party_desk.proofs.NamedRows.{gate_named}
 use Rattle.party_desk.proofs.memory.Memory.join.Goals as goal

@@ -1,7 +1,7 @@
 use Rattle.std.proofs.Common.{◌<◌, length, sym, ap, ◌∙◌, subst, arith}
 use Rattle.std.specs.Arc.{arc_value}
 use Rattle.circuit_model.specs.declared.gate.Gate.{Gate}
-use Rattle.job_session.specs.Sessions.{gate, operand, Session}
+use Rattle.session_slots.specs.Sessions.{gate, operand, Session}
 use Rattle.party_desk.proofs.NamedRows.{operand_named}
 use Rattle.party_desk.proofs.memory.Memory.open_masked.Goals as goal
 

@@ -1,6 +1,6 @@
 use Rattle.std.proofs.Common.{◌<◌, sym, ap, ◌∙◌, subst}
-use Rattle.job_session.specs.Sessions.{gate, operand, row_names, Session}
-use Rattle.job_session.specs.SoundSessions.{slot_of_kind, Inside}
+use Rattle.session_slots.specs.Sessions.{gate, operand, row_names, Session}
+use Rattle.session_slots.specs.SoundSessions.{slot_of_kind, Inside}
 use Rattle.circuit_model.specs.declared.gate.Gate.{Gate}
 use Rattle.job_plan.specs.Plans.{session}
 use Rattle.party_desk.proofs.NamedRows.{operand_named}

@@ -1,7 +1,8 @@
 use Rattle.std.proofs.Common.{◌≡◌, length, replicate, None, ◌+◌, ◌*◌, sym, ap, ◌∙◌, subst}
 use Rattle.std.specs.Arc.{arc_value}
-use Rattle.job_session.specs.KeptWires.{IsRows, live}
-use Rattle.job_session.specs.Sessions.{Session, readers}
+use Rattle.job_session.specs.Rows.{IsRows}
+use Rattle.session_slots.specs.KeptWires.{live}
+use Rattle.session_slots.specs.Sessions.{Session, readers}
 use Rattle.job_session.specs.declared.row_table.RowTable.{RowTable}
 use Rattle.job_plan.specs.Plans.{session}
 use Rattle.party_desk.proofs.reserved.Reserved.make.Goals as goal

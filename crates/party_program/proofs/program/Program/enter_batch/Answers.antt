@@ -1,5 +1,5 @@
 use Rattle.std.proofs.Common.{◌<◌, sym, subst, inl, arith}
-use Rattle.job_session.specs.Sessions.{Session, session_slots}
+use Rattle.session_slots.specs.Sessions.{Session, session_slots}
 use Rattle.job_session.specs.Batches.{batch, IsBatch}
 use Rattle.job_plan.specs.Plans.{session, slots}
 use Rattle.party_program.specs.declared.half.Half.TheVariants.{Head}

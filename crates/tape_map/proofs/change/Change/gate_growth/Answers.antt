@@ -2,9 +2,9 @@ use Rattle.std.proofs.Common.{◌≡◌, ℕ, ◌<◌, List, [], length, sym, ap
 use Rattle.std.specs.Prelude.{slice_index_or}
 use Rattle.std.specs.Global.{Vec}
 use Rattle.circuit_model.specs.declared.gate.Gate.{Gate}
-use Rattle.job_session.specs.Sessions.{Session, gate}
-use Rattle.job_session.specs.SoundSessions.{IsSoundSession}
-use Rattle.job_session.proofs.RowNames.{wires_named}
+use Rattle.session_slots.specs.Sessions.{Session, gate}
+use Rattle.session_slots.specs.SoundSessions.{IsSoundSession}
+use Rattle.session_slots.proofs.RowNames.{wires_named}
 use Rattle.job_plan.specs.InputWords.{session_words}
 use Rattle.job_plan.specs.Plans.{Plan, session}
 use Rattle.wire_tables.proofs.ListedRows.{row_read}

@@ -1,5 +1,5 @@
 use Rattle.std.proofs.Common.{◌≡◌, ℕ, ◌<◌, List, length, refl, sym, ap, ◌∙◌, subst}
-use Rattle.job_session.specs.declared.side.Side.TheVariants.{First, Second}
+use Rattle.session_slots.specs.declared.side.Side.TheVariants.{First, Second}
 use Rattle.share_world.specs.Laws.{IsWhole}
 use Rattle.share_world.specs.Worlds.{World}
 use Rattle.wire_tables.specs.WireTables.{summand_rows, world_of}

@@ -3,9 +3,9 @@ use Rattle.std.specs.Prelude.{slice_index_or}
 use Rattle.std.specs.Global.{Vec}
 use Rattle.std.proofs.lemmas.Bool.{and_parts}
 use Rattle.circuit_model.specs.Circuits.{is_product}
-use Rattle.job_session.specs.declared.side.Side.{Side}
-use Rattle.job_session.specs.declared.side.Side.TheVariants.{First, Second}
-use Rattle.job_session.specs.Sessions.{Session, gate, is_prepared, mask_wire}
+use Rattle.session_slots.specs.declared.side.Side.{Side}
+use Rattle.session_slots.specs.declared.side.Side.TheVariants.{First, Second}
+use Rattle.session_slots.specs.Sessions.{Session, gate, is_prepared, mask_wire}
 use Rattle.job_plan.specs.Plans.{Plan, session}
 use Rattle.wire_tables.proofs.ListedRows.{row_read}
 use Rattle.tape_map.specs.declared.change.Change.{Change}

@@ -3,8 +3,8 @@ use Rattle.std.specs.Prelude.{slice_index}
 use Rattle.std.specs.Global.{Vec}
 use Rattle.list_laws.specs.Lists.{joined, listed}
 use Rattle.list_laws.proofs.JoinedLists.{joined_step, joined_step_none, total_within}
-use Rattle.job_session.specs.Sessions.{session_slot}
-use Rattle.job_session.specs.SoundSessions.{slot_of_kind}
+use Rattle.session_slots.specs.Sessions.{session_slot}
+use Rattle.session_slots.specs.SoundSessions.{slot_of_kind}
 use Rattle.job_plan.specs.Plans.{slot, slots, words_in, place}
 use Rattle.tape_map.specs.TapeMaps.{hidden_word, raised}
 use Rattle.tape_map.specs.Changes.{growth_by, grown_words}

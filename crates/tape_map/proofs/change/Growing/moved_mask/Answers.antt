@@ -1,8 +1,8 @@
 use Rattle.std.proofs.Common.{◌≡◌, ℕ, ◌<◌, length, ap, ◌∙◌, arith}
-use Rattle.job_session.specs.declared.side.Side.{Side}
-use Rattle.job_session.specs.declared.side.Side.TheVariants.{First, Second}
-use Rattle.job_session.specs.Sessions.{Session, gate, operand}
-use Rattle.job_session.specs.SoundSessions.{IsWired}
+use Rattle.session_slots.specs.declared.side.Side.{Side}
+use Rattle.session_slots.specs.declared.side.Side.TheVariants.{First, Second}
+use Rattle.session_slots.specs.Sessions.{Session, gate, operand}
+use Rattle.session_slots.specs.SoundSessions.{IsWired}
 use Rattle.job_plan.specs.Plans.{session}
 use Rattle.tape_map.proofs.change.Growing.moved_mask.Goals as goal
 

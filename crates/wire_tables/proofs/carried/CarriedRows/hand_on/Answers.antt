@@ -2,8 +2,8 @@ use Rattle.std.proofs.Common.{◌≡◌, ℕ, ◌+◌, ◌<◌, nat_eq, if◌the
 use Rattle.std.specs.Prelude.{slice_index_or}
 use Rattle.std.specs.Global.{Vec}
 use Rattle.std.proofs.lemmas.List.{get_or-map, length-map, map-set}
-use Rattle.job_session.specs.declared.values.KeptWire.{KeptWire}
-use Rattle.job_session.specs.Sessions.{Session, kept_wire, no_kept, output_wire}
+use Rattle.session_slots.specs.declared.values.KeptWire.{KeptWire}
+use Rattle.session_slots.specs.Sessions.{Session, kept_wire, no_kept, output_wire}
 use Rattle.job_plan.specs.InputWords.{input_words, session_words}
 use Rattle.job_plan.specs.Plans.{session}
 use Rattle.wire_tables.specs.WireTables.{row_at}

@@ -1,7 +1,7 @@
 use Rattle.std.proofs.Common.{◌≡◌, ℕ, ◌+◌, length, set, sym, ap, ◌∙◌, subst, arith}
 use Rattle.std.specs.Global.{Vec}
 use Rattle.std.proofs.lemmas.List.{with_items_is}
-use Rattle.job_session.proofs.RowNames.{wires_named}
+use Rattle.session_slots.proofs.RowNames.{wires_named}
 use Rattle.job_plan.specs.InputWords.{session_words}
 use Rattle.job_plan.specs.Plans.{session}
 use Rattle.share_world.specs.Worlds.{World}

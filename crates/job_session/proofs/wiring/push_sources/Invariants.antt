@@ -1,8 +1,0 @@
-use Rattle.std.proofs.Common.{◌≡◌, ◌++◌}
-use Rattle.list_laws.specs.Lists.{listed}
-use Rattle.job_session.specs.Sessions.{source_from}
-use Rattle.job_session.proofs.wiring.push_sources.Given as goal
-
--- those of the wires so far
-abbrev pub invariant-loop-wire : goal.invariant-loop-wire
-invariant-loop-wire l = l.list.items ≡ l.initial.list.items ++ listed l.wire (source_from l.owner)

@@ -1,0 +1,7 @@
+pub mod SessionSlots
+pub mod RowNames
+pub mod ValueWires
+pub mod KeptRows
+pub mod SlotReads
+pub mod GateOrder
+pub mod WiringSlots

@@ -1,0 +1,14 @@
+use Rattle.std.proofs.Common.{◌≡◌, false, [], ◌∷◌, ◌++◌}
+use Rattle.std.specs.Prelude.{map}
+use Rattle.list_laws.specs.Lists.{joined, only_if}
+use Rattle.session_slots.specs.declared.side.Side.TheVariants.{First, Second}
+use Rattle.session_slots.specs.Sessions.{is_prepared}
+use Rattle.session_slots.specs.Sessions.Slot.{Mask, Mask_product}
+use Rattle.session_slots.specs.SoundSessions.{slot_of_kind}
+use Rattle.session_slots.specs.Wirings.{prepared_in}
+use Rattle.session_slots.proofs.slot_list.push_turns.Given as goal
+
+-- those of the gates so far
+abbrev pub invariant-loop-t : goal.invariant-loop-t
+invariant-loop-t l = map slot_of_kind l.kinds.items ≡ map slot_of_kind l.initial.kinds.items
+    ++ joined l.t (λ t. only_if (is_prepared (prepared_in l.wiring false) t) (Mask t First ∷ Mask t Second ∷ Mask_product t ∷ []))
