@@ -338,7 +338,6 @@ OWN = {
     ('job_walk', 'JobOf', 'StructureOf'): 'the structure of the job, or its refusal: too many groups, or two that are all parties',
     ('job_walk', 'JobOf', 'PlannedOf'): 'the sessions are read one after another, and then the plan is made of them',
     ('mpc_top', 'WholeJobs', 'whole_job'): 'the world of what all parties gave',
-    ('command_words', 'Commands', 'is_workers'): 'the word is this option',
     ('job_plan', 'Firsts', 'count'): 'of a slot alone; its comment is of `session_count` too',
     ('job_plan', 'Numbers', 'deals_before'): 'before a slot alone; its comment is of another definition too, which nothing here reads',
     ('node_run', 'Progress', 'talk_bytes'): 'of the whole talk; its comment is of another definition too, which nothing here reads',

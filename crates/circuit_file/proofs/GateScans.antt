@@ -18,7 +18,7 @@ use Rattle.circuit_file.specs.Tokens.{token, tokens_after, number_in, all_number
 use Rattle.circuit_file.specs.GateLines.{operation_of, form_checks, form_of, gate_line_of, wires_in}
 use Rattle.circuit_file.specs.CircuitFiles.{gate_in, gates_in}
 use Rattle.circuit_file.specs.Grammar.{Write}
-use Rattle.circuit_file.specs.Steps.{Takes, IsParsedGate, IsFirstGate, AddsGate, AddsNext}
+use Rattle.circuit_file.specs.Steps.{TakesNumbers, IsParsedGate, IsFirstGate, AddsGate, AddsNext}
 use Rattle.circuit_model.specs.declared.layout.CircuitLayout.{CircuitLayout}
 use Rattle.circuit_file.specs.declared.gate_line.Form.{Form}
 use Rattle.circuit_file.specs.declared.gate_line.ParsedGate.{ParsedGate}
@@ -35,26 +35,26 @@ write_append [] us (n ∷ ns) ms w v = absurd w
 write_append (t ∷ ts) us [] ms w v = absurd w
 write_append (t ∷ ts) us (n ∷ ns) ms w v = (w.0, write_append ts us ns ms w.1 v)
 
-pub takes_then : (p q r : Place) (ns ms : List ℕ) → Takes p ns q → Takes q ms r → Takes p (ns ++ ms) r
+pub takes_then : (p q r : Place) (ns ms : List ℕ) → TakesNumbers p ns q → TakesNumbers q ms r → TakesNumbers p (ns ++ ms) r
 takes_then p q r ns ms a b = record {
   tokens = a.tokens ++ b.tokens;
   before = a.before ∙ ap (λ (x : Place). record x { tokens = a.tokens ++ x.tokens }) b.before ∙ ap (λ ts. record r { tokens = ts }) (sym (append_assoc a.tokens b.tokens r.tokens));
   write = write_append a.tokens b.tokens ns ms a.write b.write;
 }
 
-takes_from : (k : ℕ) (ts : List (List ℕ)) (rows : List Row) (n : ℕ) → Some n ≡ number_written (slice_index_or ts 0 []) → Takes (record { number = k; tokens = ts; rows = rows }) (n ∷ []) (record { number = k; tokens = drop 1 ts; rows = rows })
+takes_from : (k : ℕ) (ts : List (List ℕ)) (rows : List Row) (n : ℕ) → Some n ≡ number_written (slice_index_or ts 0 []) → TakesNumbers (record { number = k; tokens = ts; rows = rows }) (n ∷ []) (record { number = k; tokens = drop 1 ts; rows = rows })
 unfolding number_written
 takes_from k [] rows n e = cc
 takes_from k (t ∷ ts) rows n e = record { tokens = t ∷ []; before = refl; write = (sym e, tt) }
 
-pub takes_one : (p q : Place) (n : ℕ) → Some n ≡ number_written (next_token p) → q ≡ past_token p → Takes p (n ∷ []) q
-takes_one p q n e s = subst (Takes p (n ∷ [])) (sym s) (takes_from p.number p.tokens p.rows n e)
+pub takes_one : (p q : Place) (n : ℕ) → Some n ≡ number_written (next_token p) → q ≡ past_token p → TakesNumbers p (n ∷ []) q
+takes_one p q n e s = subst (TakesNumbers p (n ∷ [])) (sym s) (takes_from p.number p.tokens p.rows n e)
 
-pub takes_two : (p q r : Place) (a b : ℕ) → Takes p (a ∷ []) q → Takes q (b ∷ []) r → Takes p (a ∷ b ∷ []) r
+pub takes_two : (p q r : Place) (a b : ℕ) → TakesNumbers p (a ∷ []) q → TakesNumbers q (b ∷ []) r → TakesNumbers p (a ∷ b ∷ []) r
 takes_two p q r a b s t = takes_then p q r (a ∷ []) (b ∷ []) s t
 
-pub takes_count : (p q : Place) (ns ms : List ℕ) (k count : ℕ) → count ≡ k → take k ns ≡ ms → Takes p ms q → Takes p (take count ns) q
-takes_count p q ns ms k count e f t = subst (λ xs. Takes p xs q) (sym (ap (λ i. take i ns) e ∙ f)) t
+pub takes_count : (p q : Place) (ns ms : List ℕ) (k count : ℕ) → count ≡ k → take k ns ≡ ms → TakesNumbers p ms q → TakesNumbers p (take count ns) q
+takes_count p q ns ms k count e f t = subst (λ xs. TakesNumbers p xs q) (sym (ap (λ i. take i ns) e ∙ f)) t
 
 -- ---- a line that has the form of a gate line
 
@@ -76,11 +76,11 @@ line_form layout n t0 t1 name ts inputs outputs o v0 v1 all long op =
 
 -- what was taken from the start of a line to its end
 pub scanned : (layout : CircuitLayout) (p q r s e : Place) (rest : List Row) (line inputs outputs : ℕ) (wires name : List ℕ) (o : Operation)
-    → line ≡ p.number → Takes p (inputs ∷ []) q → Takes q (outputs ∷ []) r → Takes r (take (inputs + outputs) wires) s → s ≡ record e { tokens = name ∷ e.tokens } → e.tokens ≡ [] → rest ≡ e.rows → Some o ≡ operation_of layout name
+    → line ≡ p.number → TakesNumbers p (inputs ∷ []) q → TakesNumbers q (outputs ∷ []) r → TakesNumbers r (take (inputs + outputs) wires) s → s ≡ record e { tokens = name ∷ e.tokens } → e.tokens ≡ [] → rest ≡ e.rows → Some o ≡ operation_of layout name
     → inputs + outputs ≤ 3 → 3 ≡ length wires
     → IsFirstGate layout (rows_at p) (record { line = line; form = record { operation = o; inputs = inputs; wires = inputs + outputs }; wires = wires }) rest
 scanned layout p q r s e rest line inputs outputs wires name o at ins outs ws last none after op few three =
-    let all : Takes p (inputs ∷ outputs ∷ take (inputs + outputs) wires) s = takes_then p q s (inputs ∷ []) (outputs ∷ take (inputs + outputs) wires) ins (takes_then q r s (outputs ∷ []) (take (inputs + outputs) wires) outs ws) in
+    let all : TakesNumbers p (inputs ∷ outputs ∷ take (inputs + outputs) wires) s = takes_then p q s (inputs ∷ []) (outputs ∷ take (inputs + outputs) wires) ins (takes_then q r s (outputs ∷ []) (take (inputs + outputs) wires) outs ws) in
     let a = write_some all.tokens inputs (outputs ∷ take (inputs + outputs) wires) all.write in
     let b = write_some a.1 outputs (take (inputs + outputs) wires) a.4 in
     let ts : List (List ℕ) = b.1 in

@@ -16,7 +16,7 @@ use Rattle.circuit_model.specs.declared.layout.CircuitLayout.{CircuitLayout}
 use Rattle.job_limits.specs.declared.limits.TheConstants.{MOST_GATES}
 
 -- the next tokens write these numbers
-pub record Takes (old : Place) (numbers : List ℕ) (new : Place) : Type 0 where
+pub record TakesNumbers (old : Place) (numbers : List ℕ) (new : Place) : Type 0 where
   pub tokens : List (List ℕ)
   pub before : old ≡ record new { tokens = tokens ++ new.tokens }
   pub write : Write tokens numbers

@@ -1,6 +1,6 @@
 //! Gate lines, read in one go as long as nothing is wrong with them.
 ghost use Rattle.std.specs.Prelude.{◌≡◌, ◌≤◌, IfSome, MatchOption, length, take};
-ghost use Rattle.circuit_file.specs.Steps.{Takes, IsFirstGate};
+ghost use Rattle.circuit_file.specs.Steps.{TakesNumbers, IsFirstGate};
 
 use crate::gate_line::{Form, ParsedGate};
 use crate::layout::operation_named;
@@ -10,7 +10,7 @@ use gate_lines::{Cursor, Lines};
 /// The numbers of the next two or three tokens.
 fn take_wires(cursor: &mut Cursor<'_>, count: usize) -> Option<[u64; 3]>
     requires { (2 ≤ count) × (count ≤ 3) }
-    ensures taken { IfSome result (λ wires. Takes cursor.old (take count wires) cursor.new) }
+    ensures taken { IfSome result (λ wires. TakesNumbers cursor.old (take count wires) cursor.new) }
     ensures long { IfSome result (λ wires. length wires ≡ 3) }
 {
     let first = cursor.number()?;

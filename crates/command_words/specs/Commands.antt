@@ -1,8 +1,9 @@
 -- What a command line asks for.
-use Rattle.std.specs.Prelude.{ℕ, ◌<◌, ◌≤◌, ◌==◌, ◌&&◌, nat_le, Bool, false, not, if◌then◌else◌, List, [], ◌∷◌, Option, Some, None, option_and_then, option_map, codes}
+use Rattle.std.specs.Prelude.{ℕ, ◌<◌, ◌≤◌, ◌==◌, ◌&&◌, nat_le, Bool, false, not, if◌then◌else◌, List, [], ◌∷◌, Option, Some, None, IfSome, is_none, unwrap_or, option_and_then, option_map, codes}
 use Rattle.std.specs.Str.{bytes_eq}
 use Rattle.text_tokens.specs.Numbers.{number_written}
 use Rattle.command_words.specs.declared.command.Command.{Command}
+use Rattle.command_words.specs.declared.command.RunOptions.{RunOptions}
 use Rattle.command_words.specs.declared.command.Command.TheVariants.{Run, Check, Pair, Node, Sample, Audit}
 use Rattle.job_limits.specs.declared.limits.TheConstants.{MOST_GATES, MOST_WORKERS}
 
@@ -32,6 +33,10 @@ IsInRange (Node dir name) = Unit
 IsInRange (Sample count) = (0 < count) × (count ≤ MOST_GATES)
 IsInRange (Audit dir) = Unit
 
+-- the workers that a run is given, if it is, are 1 to 16
+abbrev pub AreInRange : RunOptions → Type 0
+AreInRange options = IfSome options.workers (λ count. (0 < count) × (count ≤ MOST_WORKERS))
+
 -- a word that can be a folder, a group or a party: not empty, and not beginning with `-`
 abbrev pub is_plain : List ℕ → Bool
 is_plain [] = false
@@ -44,38 +49,35 @@ count_up_to most word =
 
 -- ---- a run, and its options
 
-abbrev pub is_workers : List ℕ → Bool
-is_workers word = bytes_eq word (codes "--workers")
+-- the options that a run is given: its workers, and the group whose view it tells
+pub record OptionsForm : Type 0 where
+  pub workers : Option ℕ
+  pub view : Option (List ℕ)
 
-abbrev pub is_view : List ℕ → Bool
-is_view word = bytes_eq word (codes "--view")
+abbrev pub options_form : RunOptions → OptionsForm
+options_form options = record { workers = options.workers; view = option_map (λ group. group.now) options.view }
 
--- a run by as many workers as one word tells
-abbrev pub run_by : List ℕ → List ℕ → Option CommandForm
-run_by dir count = option_map (λ workers. run dir workers None) (count_up_to MOST_WORKERS count)
-
--- a run by one worker, and the view of a group
-abbrev pub run_seen : List ℕ → List ℕ → Option CommandForm
-run_seen dir group = if is_plain group then Some (run dir 1 (Some group)) else None
-
--- a run by as many workers as one word tells, and the view of a group
-abbrev pub run_by_seen : List ℕ → List ℕ → List ℕ → Option CommandForm
-run_by_seen dir count group =
-    if is_plain group then option_map (λ workers. run dir workers (Some group)) (count_up_to MOST_WORKERS count)
+-- these options and one more, which isn't among them
+abbrev pub with_option : OptionsForm → List ℕ → List ℕ → Option OptionsForm
+with_option given option word =
+    if bytes_eq option (codes "--workers") && is_none given.workers then
+    option_map (λ count. record given { workers = Some count }) (count_up_to MOST_WORKERS word)
+    else if bytes_eq option (codes "--view") && is_none given.view && is_plain word then
+    Some (record given { view = Some word })
     else None
+
+-- these options and those that the words give, each by a word of its own
+abbrev pub with_options : OptionsForm → List (List ℕ) → Option OptionsForm
+with_options given [] = Some given
+with_options given (option ∷ word ∷ words) =
+    option_and_then (λ more. with_options more words) (with_option given option word)
+with_options given words = None
 
 -- a run of a folder, after which these words stand: its options, each at most once and in either order
 abbrev pub run_asked : List ℕ → List (List ℕ) → Option CommandForm
-run_asked dir [] = Some (run dir 1 None)
-run_asked dir (option ∷ word ∷ []) =
-    if is_workers option then run_by dir word
-    else if is_view option then run_seen dir word
-    else None
-run_asked dir (option ∷ word ∷ other ∷ last ∷ []) =
-    if is_workers option && is_view other then run_by_seen dir word last
-    else if is_view option && is_workers other then run_by_seen dir last word
-    else None
-run_asked dir words = None
+run_asked dir words =
+    option_map (λ given. run dir (unwrap_or given.workers 1) given.view)
+    (with_options (record { workers = None; view = None }) words)
 
 -- ---- a check
 

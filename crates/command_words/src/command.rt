@@ -1,6 +1,6 @@
 //! Commands, and the words that ask for them.
-ghost use Rattle.std.specs.Prelude.{◌≡◌, map, Some, None, IfOk, IfSome, OnErr, [], ◌∷◌, option_map, string_bytes};
-ghost use Rattle.command_words.specs.Commands.{is_plain, count_up_to, is_workers, is_view, run_by, run_seen, run_by_seen};
+ghost use Rattle.std.specs.Prelude.{◌≡◌, map, Some, None, IfOk, IfSome, OnErr, option_map, string_bytes};
+ghost use Rattle.command_words.specs.Commands.{is_plain, count_up_to, with_option, with_options, options_form, AreInRange};
 ghost use Rattle.command_words.specs.Commands.{run_asked, check_asked, pair_asked, node_asked, sample_asked, audit_asked, asked, command_of, form_of, IsInRange};
 
 use job_limits::{MOST_GATES, MOST_WORKERS};
@@ -65,118 +65,65 @@ fn count_up_to(word: &str, most: u32) -> Option<u32>
     }
 }
 
-fn is_workers(word: &str) -> bool
-    ensures { result ≡ is_workers word.now }
-{
-    word == "--workers"
+/// The options that a run is given.
+#[derive(Clone, Copy)]
+struct RunOptions<'w> {
+    workers: Option<u32>,
+    view: Option<&'w str>,
 }
 
-fn is_view(word: &str) -> bool
-    ensures { result ≡ is_view word.now }
-{
-    word == "--view"
+impl<'w> RunOptions<'w> {
+    /// These options and one more, which isn't among them.
+    fn with(self, option: &str, word: &'w str) -> Option<RunOptions<'w>>
+        ensures form { option_map options_form result ≡ with_option (options_form self.entry) option.now word.now }
+        ensures range { AreInRange self.entry → IfSome result AreInRange }
+    {
+        if option == "--workers" && self.workers.is_none() {
+            let count = count_up_to(word, MOST_WORKERS)?;
+            Some(RunOptions {
+                workers: Some(count),
+                view: self.view,
+            })
+        } else if option == "--view" && self.view.is_none() && is_plain(word) {
+            Some(RunOptions {
+                workers: self.workers,
+                view: Some(word),
+            })
+        } else {
+            None
+        }
+    }
 }
 
-/// A run by as many workers as one word tells.
-fn run_by<'w>(dir: &'w str, count: &str) -> Option<Command<'w>>
-    ensures form { option_map form_of result ≡ run_by dir.now count.now }
-    ensures range { IfSome result IsInRange }
+/// The options that these words give.
+fn run_options<'w>(words: &'w [String]) -> Option<RunOptions<'w>>
+    ensures form { option_map options_form result
+        ≡ with_options (record { workers = None; view = None }) (map string_bytes words.now) }
+    ensures range { IfSome result AreInRange }
 {
-    let workers = count_up_to(count, MOST_WORKERS)?;
-    Some(Command::Run {
-        dir,
-        workers,
+    let mut options = RunOptions {
+        workers: None,
         view: None,
-    })
-}
-
-/// A run by one worker, and the view of a group.
-fn run_seen<'w>(dir: &'w str, group: &'w str) -> Option<Command<'w>>
-    ensures form { option_map form_of result ≡ run_seen dir.now group.now }
-    ensures range { IfSome result IsInRange }
-{
-    if !is_plain(group) {
-        return None;
+    };
+    let mut rest = words;
+    while rest.len() >= 2 {
+        options = options.with(rest[0].as_str(), rest[1].as_str())?;
+        rest = &rest[2..];
     }
-    Some(Command::Run {
-        dir,
-        workers: 1,
-        view: Some(group),
-    })
-}
-
-/// A run by as many workers as one word tells, and the view of a group.
-fn run_by_seen<'w>(dir: &'w str, count: &str, group: &'w str) -> Option<Command<'w>>
-    ensures form { option_map form_of result ≡ run_by_seen dir.now count.now group.now }
-    ensures range { IfSome result IsInRange }
-{
-    if !is_plain(group) {
-        return None;
-    }
-    let workers = count_up_to(count, MOST_WORKERS)?;
-    Some(Command::Run {
-        dir,
-        workers,
-        view: Some(group),
-    })
-}
-
-/// A run with one option.
-fn run_with<'w>(dir: &'w str, option: &str, word: &'w str) -> Option<Command<'w>>
-    ensures form { option_map form_of result ≡ run_asked dir.now (option.now ∷ word.now ∷ []) }
-    ensures range { IfSome result IsInRange }
-{
-    if is_workers(option) {
-        run_by(dir, word)
-    } else if is_view(option) {
-        run_seen(dir, word)
-    } else {
-        None
-    }
-}
-
-/// A run with two options.
-fn run_with_both<'w>(
-    dir: &'w str,
-    option: &str,
-    word: &'w str,
-    other: &str,
-    last: &'w str,
-) -> Option<Command<'w>>
-    ensures form { option_map form_of result
-        ≡ run_asked dir.now (option.now ∷ word.now ∷ other.now ∷ last.now ∷ []) }
-    ensures range { IfSome result IsInRange }
-{
-    if is_workers(option) && is_view(other) {
-        run_by_seen(dir, word, last)
-    } else if is_view(option) && is_workers(other) {
-        run_by_seen(dir, last, word)
-    } else {
-        None
-    }
+    if rest.is_empty() { Some(options) } else { None }
 }
 
 /// A run of a folder, after which these words stand.
-fn run_asked<'w>(dir: &'w str, options: &'w [String]) -> Option<Command<'w>>
-    ensures form { option_map form_of result ≡ run_asked dir.now (map string_bytes options.now) }
+fn run_asked<'w>(dir: &'w str, words: &'w [String]) -> Option<Command<'w>>
+    ensures form { option_map form_of result ≡ run_asked dir.now (map string_bytes words.now) }
     ensures range { IfSome result IsInRange }
 {
-    match options.len() {
-        0 => Some(Command::Run {
-            dir,
-            workers: 1,
-            view: None,
-        }),
-        2 => run_with(dir, options[0].as_str(), options[1].as_str()),
-        4 => run_with_both(
-            dir,
-            options[0].as_str(),
-            options[1].as_str(),
-            options[2].as_str(),
-            options[3].as_str(),
-        ),
-        _ => None,
-    }
+    let options = run_options(words)?;
+    Some(Command::Run {
+        dir,
+        workers: options.workers.unwrap_or(1),
+        view: options.view,
+    })
 }
 
 /// A check of a folder, after which these words stand.

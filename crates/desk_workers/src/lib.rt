@@ -2,10 +2,10 @@
 #![tactic(auto)]
 
 mod done;
+mod finish;
 mod pool;
 mod promised;
 mod ready;
-mod rounds;
 mod steps;
 
 pub use done::Done;

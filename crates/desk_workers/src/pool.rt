@@ -5,7 +5,7 @@ ghost use Rattle.message_board.specs.Seats.{IsFreeSeatOf, slots_of};
 ghost use Rattle.desk_workers.specs.Pools.{IsPool, AllFree, SameSeatCounts};
 
 use crate::promised::Promised;
-use crate::steps::{Turn, walk};
+use crate::steps::{WorkerAtDesk, walk};
 use desk_rack::Rack;
 use job_plan::Plan;
 use message_board::BoardSeat;
@@ -29,7 +29,7 @@ fn look_in<P: Pace>(
     rack: &Rack<Promised, Box<Desk>>,
     plan: &Plan,
     pace: &P,
-    turn: Turn,
+    turn: WorkerAtDesk,
     seat: &mut BoardSeat<Promised, Box<Desk>>,
 ) -> Visit
     requires pool { IsPool plan.now rack.now }
@@ -112,7 +112,7 @@ fn pass<P: Pace>(
     let mut moves = 0;
     let mut over = true;
     while visits < visited.count {
-        let seen = look_in(rack, plan, pace, Turn { worker, desk }, seat);
+        let seen = look_in(rack, plan, pace, WorkerAtDesk { worker, desk }, seat);
         moves += seen.moves;
         over = over && seen.over;
         desk = slot_after(desk, slots);

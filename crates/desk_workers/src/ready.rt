@@ -7,9 +7,9 @@ ghost use Rattle.desk_laws.specs.Pieces.{ArePieces, world_of_pieces};
 ghost use Rattle.desk_workers.specs.Runs.{IsReady};
 
 use crate::done::Done;
+use crate::finish::{finish_all, fold_all, take_all};
 use crate::pool::work_all;
 use crate::promised::Promised;
-use crate::rounds::{finish_all, fold_all, take_all};
 use desk_laws::open_desks;
 use desk_rack::Rack;
 use job_limits::MOST_WORKERS;

@@ -13,7 +13,7 @@ use party_desk::{Desk, Stepped};
 
 /// A worker that is about to step a desk: its number, and the desk's.
 #[derive(Clone, Copy)]
-pub struct Turn {
+pub struct WorkerAtDesk {
     pub worker: u32,
     pub desk: u32,
 }
@@ -85,7 +85,7 @@ fn goes_far<P: Pace>(
     board: &Board<Promised, Box<Desk>>,
     plan: &Plan,
     pace: &P,
-    turn: Turn,
+    turn: WorkerAtDesk,
     seat: &mut BoardSeat<Promised, Box<Desk>>,
     desk: &mut Desk,
 ) -> u64
@@ -109,7 +109,7 @@ pub fn walk<P: Pace>(
     board: &Board<Promised, Box<Desk>>,
     plan: &Plan,
     pace: &P,
-    turn: Turn,
+    turn: WorkerAtDesk,
     seat: &mut BoardSeat<Promised, Box<Desk>>,
     desk: &mut Desk,
 ) -> u64

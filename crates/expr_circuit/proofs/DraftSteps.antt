@@ -3,10 +3,10 @@ use Rattle.std.proofs.Common.{◌≡◌, ℕ, ◌+◌, true, false, cond, List, 
 use Rattle.std.specs.Option.{is_some}
 use Rattle.expr_circuit.specs.declared.fault.ExprFault.{ExprFault}
 use Rattle.expr_circuit.specs.declared.fault.ExprFault.TheVariants.{NotUtf8, Syntax, UnknownName, BadConstant, TooDeep, TwiceNamed, TooLarge, Memory}
-use Rattle.expr_circuit.specs.declared.names.Names.{Names}
+use Rattle.expr_circuit.specs.declared.names.NamedWires.{NamedWires}
 use Rattle.expr_circuit.specs.declared.draft.Draft.{Draft as DraftKept}
-use Rattle.expr_circuit.specs.declared.node.Node.{Node}
-use Rattle.expr_circuit.specs.declared.node.Head.{Head}
+use Rattle.expr_circuit.specs.declared.kept_line.ExprElement.{ExprElement}
+use Rattle.expr_circuit.specs.declared.kept_line.Head.{Head}
 use Rattle.expr_circuit.specs.Machine.{State}
 use Rattle.std.specs.Prelude.{reverse}
 use Rattle.expr_circuit.specs.declared.wire.Wire.{Wire}
@@ -23,7 +23,7 @@ use Rattle.expr_circuit.proofs.GateSteps.{fails_on, fails_then, memory_fails}
 twice_fails : (d : Draft) (n : ℕ) (x : List ℕ) (w : Wire) (f : ExprFault) → is_some (d.of x) ≡ true → f ≡ TwiceNamed n → bind_in d n x w ≡ Err f
 twice_fails d n x w f some e = ap (λ b. cond b (Err (TwiceNamed n)) (Ok (record d { of = bind d.of x (Some w) }))) some ∙ ap Err (sym e)
 
-bind_fails : (d : Draft) (n : ℕ) (x : List ℕ) (w : Wire) (new : Names) (f : ExprFault) → Binds {A = Unit {0}} d.of n x w (Err f) new → Fails f (bind_in d n x w)
+bind_fails : (d : Draft) (n : ℕ) (x : List ℕ) (w : Wire) (new : NamedWires) (f : ExprFault) → Binds {A = Unit {0}} d.of n x w (Err f) new → Fails f (bind_in d n x w)
 bind_fails d n x w new Memory h = tt
 bind_fails d n x w new (NotUtf8 at) h = twice_fails d n x w (NotUtf8 at) h.0 h.1
 bind_fails d n x w new (Syntax line at) h = twice_fails d n x w (Syntax line at) h.0 h.1
@@ -37,7 +37,7 @@ bind_done : (d : Draft) (n : ℕ) (x : List ℕ) (w : Wire) → is_some (d.of x)
 bind_done d n x w none = ap (λ b. cond b (Err (TwiceNamed n)) (Ok (record d { of = bind d.of x (Some w) }))) none
 
 -- a name for an input
-pub input_becomes : (d : Draft) (n : ℕ) (x : List ℕ) (w : Wire) (names : Names) (old gates : Kept) (bound r : Result (Unit {0}) ExprFault) → w ≡ wires.Input old.inputs → old ≡ kept d → bound ≡ Ok tt → Binds d.of n x w bound names
+pub input_becomes : (d : Draft) (n : ℕ) (x : List ℕ) (w : Wire) (names : NamedWires) (old gates : Kept) (bound r : Result (Unit {0}) ExprFault) → w ≡ wires.Input old.inputs → old ≡ kept d → bound ≡ Ok tt → Binds d.of n x w bound names
     → OrMemory r (gates ≡ record old { inputs = old.inputs + 1 }) → Becomes r (record { names = names; gates = gates }) (input_in d n x)
 input_becomes d n x w names old gates (Err f) r wire is e b h = cc
 input_becomes d n x w names old gates (Ok u) (Err f) wire is e b h = memory_fails f (input_in d n x) h
@@ -52,7 +52,7 @@ input_becomes d n x w names old gates (Ok u) (Ok v) wire is e b h =
       ),
     )
 
-pub input_fails : (d : Draft) (n : ℕ) (x : List ℕ) (w : Wire) (names : Names) (old : Kept) (bound : Result (Unit {0}) ExprFault) (f : ExprFault) → w ≡ wires.Input old.inputs → old ≡ kept d → bound ≡ Err f → Binds d.of n x w bound names → Fails f (input_in d n x)
+pub input_fails : (d : Draft) (n : ℕ) (x : List ℕ) (w : Wire) (names : NamedWires) (old : Kept) (bound : Result (Unit {0}) ExprFault) (f : ExprFault) → w ≡ wires.Input old.inputs → old ≡ kept d → bound ≡ Err f → Binds d.of n x w bound names → Fails f (input_in d n x)
 input_fails d n x w names old (Ok u) f wire is e b = cc
 input_fails d n x w names old (Err g) f wire is e b =
     let i : Wire = wires.Input d.inputs in
@@ -61,47 +61,47 @@ input_fails d n x w names old (Err g) f wire is e b =
     (fails_then g (bind_in d n x i) (λ (e : Draft). Ok (record e { inputs = e.inputs + 1 })) (bind_fails d n x i names g (subst (λ (y : Wire). Binds {A = Unit {0}} d.of n x y (Err g) names) same b)))
 
 -- a name for an expression
-pub define_becomes : (q : ℕ) (d : Draft) (n : ℕ) (line x : List ℕ) (nodes : List Node) (wire : Wire) (names : Names) (gates : Kept) (built : Result Wire ExprFault) (r : Result (Unit {0}) ExprFault) → built ≡ Ok wire
-    → Expresses d built gates (expression_in q d n line nodes) → Binds d.of n x wire r names → Becomes r (record { names = names; gates = gates }) (define_in q d n line x nodes)
-define_becomes q d n line x nodes wire names gates (Err f) r e h b = cc
-define_becomes q d n line x nodes wire names gates (Ok w) (Ok u) e h b =
+pub define_becomes : (q : ℕ) (d : Draft) (n : ℕ) (line x : List ℕ) (elements : List ExprElement) (wire : Wire) (names : NamedWires) (gates : Kept) (built : Result Wire ExprFault) (r : Result (Unit {0}) ExprFault) → built ≡ Ok wire
+    → Expresses d built gates (expression_in q d n line elements) → Binds d.of n x wire r names → Becomes r (record { names = names; gates = gates }) (define_in q d n line x elements)
+define_becomes q d n line x elements wire names gates (Err f) r e h b = cc
+define_becomes q d n line x elements wire names gates (Ok w) (Ok u) e h b =
     let same : wire ≡ h.0.wire = (let s : wire ≡ w = cc in s) ∙ h.2 in (
       record (with_gates d h.0) { of = bind d.of x (Some h.0.wire) },
       ap (λ r. r >>= (λ (c : Built). bind_in (with_gates d c) n x c.wire)) h.1 ∙ bind_done (with_gates d h.0) n x h.0.wire b.0,
       (subst (λ (y : Wire). AreNames names (bind d.of x (Some y))) same b.1, h.3),
     )
-define_becomes q d n line x nodes wire names gates (Ok w) (Err f) e h b =
+define_becomes q d n line x elements wire names gates (Ok w) (Err f) e h b =
     let same : wire ≡ h.0.wire = (let s : wire ≡ w = cc in s) ∙ h.2 in
-    fails_on f (bind_in (with_gates d h.0) n x h.0.wire) (define_in q d n line x nodes) (λ g y. ap (λ r. r >>= (λ (c : Built). bind_in (with_gates d c) n x c.wire)) h.1 ∙ y)
+    fails_on f (bind_in (with_gates d h.0) n x h.0.wire) (define_in q d n line x elements) (λ g y. ap (λ r. r >>= (λ (c : Built). bind_in (with_gates d c) n x c.wire)) h.1 ∙ y)
     (bind_fails (with_gates d h.0) n x h.0.wire names f (subst (λ (y : Wire). Binds {A = Unit {0}} d.of n x y (Err f) names) same b))
 
-pub define_fails : (q : ℕ) (d : Draft) (n : ℕ) (line x : List ℕ) (nodes : List Node) (gates : Kept) (built : Result Wire ExprFault) (f : ExprFault) → built ≡ Err f → Expresses d built gates (expression_in q d n line nodes) → Fails f (define_in q d n line x nodes)
-define_fails q d n line x nodes gates (Ok w) f e h = cc
-define_fails q d n line x nodes gates (Err g) f e h =
-    subst (λ k. Fails k (define_in q d n line x nodes)) (let s : g ≡ f = cc in s) (fails_then g (expression_in q d n line nodes) (λ (c : Built). bind_in (with_gates d c) n x c.wire) h)
+pub define_fails : (q : ℕ) (d : Draft) (n : ℕ) (line x : List ℕ) (elements : List ExprElement) (gates : Kept) (built : Result Wire ExprFault) (f : ExprFault) → built ≡ Err f → Expresses d built gates (expression_in q d n line elements) → Fails f (define_in q d n line x elements)
+define_fails q d n line x elements gates (Ok w) f e h = cc
+define_fails q d n line x elements gates (Err g) f e h =
+    subst (λ k. Fails k (define_in q d n line x elements)) (let s : g ≡ f = cc in s) (fails_then g (expression_in q d n line elements) (λ (c : Built). bind_in (with_gates d c) n x c.wire) h)
 
 -- an output
-pub output_becomes : (q : ℕ) (d : Draft) (n : ℕ) (line : List ℕ) (nodes : List Node) (wire : Wire) (names : Names) (gates new : Kept) (built : Result Wire ExprFault) (r : Result (Unit {0}) ExprFault) → built ≡ Ok wire → AreNames names d.of
-    → Expresses d built gates (expression_in q d n line nodes) → ((e : Draft) → gates ≡ kept e → OrMemory r (new ≡ kept (record e { outputs = e.outputs ++ (wire ∷ []) }))) → Becomes r (record { names = names; gates = new }) (output_in q d n line nodes)
-output_becomes q d n line nodes wire names gates new (Err f) r e are h o = cc
-output_becomes q d n line nodes wire names gates new (Ok w) (Ok u) e are h o =
+pub output_becomes : (q : ℕ) (d : Draft) (n : ℕ) (line : List ℕ) (elements : List ExprElement) (wire : Wire) (names : NamedWires) (gates new : Kept) (built : Result Wire ExprFault) (r : Result (Unit {0}) ExprFault) → built ≡ Ok wire → AreNames names d.of
+    → Expresses d built gates (expression_in q d n line elements) → ((e : Draft) → gates ≡ kept e → OrMemory r (new ≡ kept (record e { outputs = e.outputs ++ (wire ∷ []) }))) → Becomes r (record { names = names; gates = new }) (output_in q d n line elements)
+output_becomes q d n line elements wire names gates new (Err f) r e are h o = cc
+output_becomes q d n line elements wire names gates new (Ok w) (Ok u) e are h o =
     let same : wire ≡ h.0.wire = (let s : wire ≡ w = cc in s) ∙ h.2 in (
       record d { gates = h.0.gates; outputs = d.outputs ++ (h.0.wire ∷ []) },
       ap (λ r. r >>= (λ (c : Built). Ok (record d { gates = c.gates; outputs = d.outputs ++ (c.wire ∷ []) }))) h.1,
       (are, o (record d { gates = h.0.gates }) h.3 ∙ ap (λ y. kept (record d { gates = h.0.gates; outputs = d.outputs ++ (y ∷ []) })) same),
     )
-output_becomes q d n line nodes wire names gates new (Ok w) (Err f) e are h o = memory_fails f (output_in q d n line nodes) (o (record d { gates = h.0.gates }) h.3)
+output_becomes q d n line elements wire names gates new (Ok w) (Err f) e are h o = memory_fails f (output_in q d n line elements) (o (record d { gates = h.0.gates }) h.3)
 
-pub output_fails : (q : ℕ) (d : Draft) (n : ℕ) (line : List ℕ) (nodes : List Node) (gates : Kept) (built : Result Wire ExprFault) (f : ExprFault) → built ≡ Err f → Expresses d built gates (expression_in q d n line nodes) → Fails f (output_in q d n line nodes)
-output_fails q d n line nodes gates (Ok w) f e h = cc
-output_fails q d n line nodes gates (Err g) f e h =
-    subst (λ k. Fails k (output_in q d n line nodes)) (let s : g ≡ f = cc in s) (fails_then g (expression_in q d n line nodes) (λ (c : Built). Ok (record d { gates = c.gates; outputs = d.outputs ++ (c.wire ∷ []) })) h)
+pub output_fails : (q : ℕ) (d : Draft) (n : ℕ) (line : List ℕ) (elements : List ExprElement) (gates : Kept) (built : Result Wire ExprFault) (f : ExprFault) → built ≡ Err f → Expresses d built gates (expression_in q d n line elements) → Fails f (output_in q d n line elements)
+output_fails q d n line elements gates (Ok w) f e h = cc
+output_fails q d n line elements gates (Err g) f e h =
+    subst (λ k. Fails k (output_in q d n line elements)) (let s : g ≡ f = cc in s) (fails_then g (expression_in q d n line elements) (λ (c : Built). Ok (record d { gates = c.gates; outputs = d.outputs ++ (c.wire ∷ []) })) h)
 
 -- a line that was read
-pub line_some : (q : ℕ) (d : Draft) (n : ℕ) (text : List ℕ) (s : State) (nodes : List Node) (r : Result (Option Head) ExprFault) (head : Head) → r ≡ Ok (Some head) → nodes ≡ reverse s.out → Shows (read_kept s) r (parse_in n text) → line_in q d n text ≡ read_in q d n text head nodes
+pub line_some : (q : ℕ) (d : Draft) (n : ℕ) (text : List ℕ) (s : State) (elements : List ExprElement) (r : Result (Option Head) ExprFault) (head : Head) → r ≡ Ok (Some head) → elements ≡ reverse s.out → Shows (read_kept s) r (parse_in n text) → line_in q d n text ≡ read_in q d n text head elements
 unfolding line_in
-line_some q d n text s nodes (Err f) head e is h = cc
-line_some q d n text s nodes (Ok o) head e is h =
+line_some q d n text s elements (Err f) head e is h = cc
+line_some q d n text s elements (Ok o) head e is h =
     ap (λ r. r >>= read_line q d n text) (h ∙ ap (λ x. Ok (read_kept s x)) (let same : o ≡ Some head = cc in same)) ∙ ap (read_in q d n text head) (sym is)
 
 pub line_none : (q : ℕ) (d : Draft) (n : ℕ) (text : List ℕ) (s : State) (r : Result (Option Head) ExprFault) → r ≡ Ok None → Shows (read_kept s) r (parse_in n text) → line_in q d n text ≡ Ok d

@@ -5,11 +5,11 @@ use Rattle.std.specs.Option.{option_or}
 use Rattle.std.proofs.lemmas.Bool.{ltb-true}
 use Rattle.expr_circuit.specs.declared.fault.ExprFault.{ExprFault}
 use Rattle.expr_circuit.specs.declared.fault.ExprFault.TheVariants.{UnknownName, BadConstant}
-use Rattle.expr_circuit.specs.Grammar.{Expr, Prod, Unary, Line}
+use Rattle.expr_circuit.specs.Grammar.{Expr, Prod, Unary, LineForm}
 use Rattle.expr_circuit.specs.Grammar.Expr.{one_prod, plus, minus}
 use Rattle.expr_circuit.specs.Grammar.Prod.{one_unary, times}
 use Rattle.expr_circuit.specs.Grammar.Unary.{negated, number, named, grouped}
-use Rattle.expr_circuit.specs.Grammar.Line.{input_line, let_line, output_line}
+use Rattle.expr_circuit.specs.Grammar.LineForm.{input_line, let_line, output_line}
 use Rattle.expr_circuit.specs.Programs.{Term, Statement, name_at, number_at, term, term_prod, term_unary, statement}
 use Rattle.expr_circuit.specs.Programs.Term.{constant, variable, negative, sum, subtraction, product}
 use Rattle.expr_circuit.specs.Programs.Statement.{input, define, output}
@@ -57,7 +57,7 @@ mutual
   good_unary q known line n (named at) h = known_if (known (name_at line at)) (UnknownName n at) h
   good_unary q known line n (grouped e) h = good_expr q known line n e h
 
-good_line : (q : ℕ) (known : List ℕ → Bool) (line : List ℕ) (n : ℕ) (l : Line) → bad_line q known line n l ≡ None → IsGoodStatement q known (statement line l)
+good_line : (q : ℕ) (known : List ℕ → Bool) (line : List ℕ) (n : ℕ) (l : LineForm) → bad_line q known line n l ≡ None → IsGoodStatement q known (statement line l)
 good_line q known line n (input_line x) h = tt
 good_line q known line n (let_line x e) h = good_expr q known line n e (neither (bad q known line n e) (twice known line n x) h).0
 good_line q known line n (output_line e) h = good_expr q known line n e h

@@ -4,23 +4,23 @@ use Rattle.std.specs.Prelude.{is_some, unwrap_or}
 use Rattle.std.specs.Option.{option_or}
 use Rattle.list_laws.specs.Checks.{then_fault}
 use Rattle.circuit_model.specs.declared.gate.Operation.TheVariants.{Eq}
-use Rattle.expr_circuit.specs.declared.node.Node.{Node}
-use Rattle.expr_circuit.specs.declared.node.Node.TheVariants as nodes
+use Rattle.expr_circuit.specs.declared.kept_line.ExprElement.{ExprElement}
+use Rattle.expr_circuit.specs.declared.kept_line.ExprElement.TheVariants as elements
 use Rattle.expr_circuit.specs.declared.wire.Wire.{Wire}
 use Rattle.expr_circuit.specs.declared.wire.Wire.TheVariants as wires
 use Rattle.expr_circuit.specs.declared.fault.ExprFault.{ExprFault}
 use Rattle.expr_circuit.specs.declared.fault.ExprFault.TheVariants.{UnknownName, BadConstant, TwiceNamed}
-use Rattle.expr_circuit.specs.Grammar.{Expr, Prod, Unary, Line}
+use Rattle.expr_circuit.specs.Grammar.{Expr, Prod, Unary, LineForm}
 use Rattle.expr_circuit.specs.Grammar.Expr.{one_prod, plus, minus}
 use Rattle.expr_circuit.specs.Grammar.Prod.{one_unary, times}
 use Rattle.expr_circuit.specs.Grammar.Unary.{negated, number, named, grouped}
-use Rattle.expr_circuit.specs.Grammar.Line.{input_line, let_line, output_line}
+use Rattle.expr_circuit.specs.Grammar.LineForm.{input_line, let_line, output_line}
 use Rattle.expr_circuit.specs.Programs.{Term, Statement, bind, name_at, number_at, term, term_prod, term_unary, statement}
 use Rattle.expr_circuit.specs.Programs.Statement.{input, define, output}
 use Rattle.expr_circuit.specs.Faults.{bad, bad_prod, bad_unary, bad_line, twice, knows, Says, Parses, IsBlank, LineFault, AreLines, IsFaultIn}
 use Rattle.expr_circuit.specs.Faults.LineFault.{syntax_fault, end_fault, depth_fault, name_fault}
 use Rattle.expr_circuit.specs.Circuits.{Built, Draft, no_wire, add, build, after_statement, after_statements}
-use Rattle.expr_circuit.specs.Walks.{Read, Walk, put, top, named_wire, nodes_in, expression_in, bind_in, with_gates, read_line, parse_in, line_in, lines_in}
+use Rattle.expr_circuit.specs.Walks.{Read, Walk, put, top, named_wire, elements_in, expression_in, bind_in, with_gates, read_line, parse_in, line_in, lines_in}
 use Rattle.list_laws.specs.Answers.{◌>>=◌}
 use Rattle.expr_circuit.proofs.MachineRuns.{post, post_prod, post_unary, read_of}
 use Rattle.expr_circuit.proofs.Wires.{Tells, bind_tells}
@@ -44,31 +44,31 @@ number_case n at w true k = refl
 number_case n at w false k = refl
 
 mutual
-  walk_expr : (q : ℕ) (known : List ℕ → Bool) (of : List ℕ → Option Wire) (n : ℕ) (line : List ℕ) → Tells known of → (e : Expr) (rest : List Node) (w : Walk)
-      → nodes_in q of n line (post e rest) w ≡ then_fault (bad q known line n e) (nodes_in q of n line rest (built of w (term line e)))
+  walk_expr : (q : ℕ) (known : List ℕ → Bool) (of : List ℕ → Option Wire) (n : ℕ) (line : List ℕ) → Tells known of → (e : Expr) (rest : List ExprElement) (w : Walk)
+      → elements_in q of n line (post e rest) w ≡ then_fault (bad q known line n e) (elements_in q of n line rest (built of w (term line e)))
   walk_expr q known of n line tells (one_prod p) rest w = walk_prod q known of n line tells p rest w
   walk_expr q known of n line tells (plus e p) rest w =
-      walk_expr q known of n line tells e (post_prod p (nodes.Add ∷ rest)) w
-      ∙ ap (then_fault (bad q known line n e)) (walk_prod q known of n line tells p (nodes.Add ∷ rest) (built of w (term line e)))
-      ∙ one_then (bad q known line n e) (bad_prod q known line n p) (nodes_in q of n line rest (built of w (term line (plus e p))))
+      walk_expr q known of n line tells e (post_prod p (elements.Add ∷ rest)) w
+      ∙ ap (then_fault (bad q known line n e)) (walk_prod q known of n line tells p (elements.Add ∷ rest) (built of w (term line e)))
+      ∙ one_then (bad q known line n e) (bad_prod q known line n p) (elements_in q of n line rest (built of w (term line (plus e p))))
   walk_expr q known of n line tells (minus e p) rest w =
-      walk_expr q known of n line tells e (post_prod p (nodes.Subtract ∷ rest)) w
-      ∙ ap (then_fault (bad q known line n e)) (walk_prod q known of n line tells p (nodes.Subtract ∷ rest) (built of w (term line e)))
-      ∙ one_then (bad q known line n e) (bad_prod q known line n p) (nodes_in q of n line rest (built of w (term line (minus e p))))
+      walk_expr q known of n line tells e (post_prod p (elements.Subtract ∷ rest)) w
+      ∙ ap (then_fault (bad q known line n e)) (walk_prod q known of n line tells p (elements.Subtract ∷ rest) (built of w (term line e)))
+      ∙ one_then (bad q known line n e) (bad_prod q known line n p) (elements_in q of n line rest (built of w (term line (minus e p))))
 
-  walk_prod : (q : ℕ) (known : List ℕ → Bool) (of : List ℕ → Option Wire) (n : ℕ) (line : List ℕ) → Tells known of → (p : Prod) (rest : List Node) (w : Walk)
-      → nodes_in q of n line (post_prod p rest) w ≡ then_fault (bad_prod q known line n p) (nodes_in q of n line rest (built of w (term_prod line p)))
+  walk_prod : (q : ℕ) (known : List ℕ → Bool) (of : List ℕ → Option Wire) (n : ℕ) (line : List ℕ) → Tells known of → (p : Prod) (rest : List ExprElement) (w : Walk)
+      → elements_in q of n line (post_prod p rest) w ≡ then_fault (bad_prod q known line n p) (elements_in q of n line rest (built of w (term_prod line p)))
   walk_prod q known of n line tells (one_unary u) rest w = walk_unary q known of n line tells u rest w
   walk_prod q known of n line tells (times p u) rest w =
-      walk_prod q known of n line tells p (post_unary u (nodes.Multiply ∷ rest)) w
-      ∙ ap (then_fault (bad_prod q known line n p)) (walk_unary q known of n line tells u (nodes.Multiply ∷ rest) (built of w (term_prod line p)))
-      ∙ one_then (bad_prod q known line n p) (bad_unary q known line n u) (nodes_in q of n line rest (built of w (term_prod line (times p u))))
+      walk_prod q known of n line tells p (post_unary u (elements.Multiply ∷ rest)) w
+      ∙ ap (then_fault (bad_prod q known line n p)) (walk_unary q known of n line tells u (elements.Multiply ∷ rest) (built of w (term_prod line p)))
+      ∙ one_then (bad_prod q known line n p) (bad_unary q known line n u) (elements_in q of n line rest (built of w (term_prod line (times p u))))
 
-  walk_unary : (q : ℕ) (known : List ℕ → Bool) (of : List ℕ → Option Wire) (n : ℕ) (line : List ℕ) → Tells known of → (u : Unary) (rest : List Node) (w : Walk)
-      → nodes_in q of n line (post_unary u rest) w ≡ then_fault (bad_unary q known line n u) (nodes_in q of n line rest (built of w (term_unary line u)))
-  walk_unary q known of n line tells (negated u) rest w = walk_unary q known of n line tells u (nodes.Negate ∷ rest) w
-  walk_unary q known of n line tells (number at) rest w = number_case n at (put (add w.gates Eq no_wire no_wire (number_at line at)) w.wires) (nat_lt (number_at line at) q) (nodes_in q of n line rest)
-  walk_unary q known of n line tells (named at) rest w = named_case n at w (of (name_at line at)) (known (name_at line at)) (nodes_in q of n line rest) (tells (name_at line at))
+  walk_unary : (q : ℕ) (known : List ℕ → Bool) (of : List ℕ → Option Wire) (n : ℕ) (line : List ℕ) → Tells known of → (u : Unary) (rest : List ExprElement) (w : Walk)
+      → elements_in q of n line (post_unary u rest) w ≡ then_fault (bad_unary q known line n u) (elements_in q of n line rest (built of w (term_unary line u)))
+  walk_unary q known of n line tells (negated u) rest w = walk_unary q known of n line tells u (elements.Negate ∷ rest) w
+  walk_unary q known of n line tells (number at) rest w = number_case n at (put (add w.gates Eq no_wire no_wire (number_at line at)) w.wires) (nat_lt (number_at line at) q) (elements_in q of n line rest)
+  walk_unary q known of n line tells (named at) rest w = named_case n at w (of (name_at line at)) (known (name_at line at)) (elements_in q of n line rest) (tells (name_at line at))
   walk_unary q known of n line tells (grouped e) rest w = walk_expr q known of n line tells e rest w
 
 after_fault : {A B : Type 0} (x : Option ExprFault) (a : A) (k : A → Result B ExprFault) → then_fault x (Ok a) >>= k ≡ then_fault x (k a)
@@ -90,7 +90,7 @@ bound d n x w b e = ap (λ c. cond c (Err (TwiceNamed n)) (Ok (record d { of = b
     go false = refl
 
 -- what a line of the grammar makes of a draft, or its first fault
-read_is : (q : ℕ) (known : List ℕ → Bool) (d : Draft) (n : ℕ) (line : List ℕ) (l : Line) → Tells known d.of → read_line q d n line (Some (read_of l)) ≡ then_fault (bad_line q known line n l) (Ok (after_statement d (statement line l)))
+read_is : (q : ℕ) (known : List ℕ → Bool) (d : Draft) (n : ℕ) (line : List ℕ) (l : LineForm) → Tells known d.of → read_line q d n line (Some (read_of l)) ≡ then_fault (bad_line q known line n l) (Ok (after_statement d (statement line l)))
 read_is q known d n line (input_line x) tells =
     let next : Draft = record d { of = bind d.of (name_at line x) (Some (wires.Input d.inputs)) } in
     ap (λ r. r >>= (λ (e : Draft). Ok (record e { inputs = e.inputs + 1 }))) (bound d n (name_at line x) (wires.Input d.inputs) (known (name_at line x)) (tells (name_at line x)))
@@ -111,7 +111,7 @@ abbrev pub Lined : ℕ → (List ℕ → Bool) → Draft → ℕ → List ℕ �
 Lined q known d n line (Ok e) = (IsBlank line × (e ≡ d)) ⊎ ((s : Statement) × Says q known line n s × (e ≡ after_statement d s))
 Lined q known d n line (Err f) = LineFault q known line n f
 
-read_lined : (q : ℕ) (known : List ℕ → Bool) (d : Draft) (n : ℕ) (line : List ℕ) (l : Line) → Parses line l → (o : Option ExprFault) → bad_line q known line n l ≡ o → Lined q known d n line (then_fault o (Ok (after_statement d (statement line l))))
+read_lined : (q : ℕ) (known : List ℕ → Bool) (d : Draft) (n : ℕ) (line : List ℕ) (l : LineForm) → Parses line l → (o : Option ExprFault) → bad_line q known line n l ≡ o → Lined q known d n line (then_fault o (Ok (after_statement d (statement line l))))
 read_lined q known d n line l h None e = inr (statement line l, record { form = l; parsed = h; good = e; meant = refl }, refl)
 read_lined q known d n line l h (Some f) e = name_fault l h e
 

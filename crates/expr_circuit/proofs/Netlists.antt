@@ -18,12 +18,12 @@ use Rattle.circuit_file.specs.GateLines.{operation_of}
 use Rattle.circuit_file.specs.CircuitTexts.{operation_name, HasOperation}
 use Rattle.expr_circuit.specs.declared.wire.Wire.{Wire}
 use Rattle.expr_circuit.specs.declared.wire.Wire.TheVariants as wires
-use Rattle.expr_circuit.specs.declared.wire.Step.{Step}
+use Rattle.expr_circuit.specs.declared.wire.DraftGate.{DraftGate}
 use Rattle.expr_circuit.specs.Programs.{Statement}
 use Rattle.expr_circuit.specs.Faults.{none_known}
 use Rattle.expr_circuit.specs.Circuits.{Draft, no_wire, after_statements, no_lines, draft_of, number_of, copy, all_gates, gate_of, gates_from, netlist, is_large}
 use Rattle.expr_circuit.proofs.GoodPrograms.{AreGood}
-use Rattle.expr_circuit.proofs.Wires.{IsBelow, FitsAs, StepFits, FitFrom, AllBelow, DraftFits, inputs_after, known_after, statements_fit}
+use Rattle.expr_circuit.proofs.Wires.{IsBelow, FitsAs, DraftGateFits, FitFrom, AllBelow, DraftFits, inputs_after, known_after, statements_fit}
 
 -- the copies of outputs fit too
 copies_fit : (q m g : ℕ) (ws : List Wire) (k : ℕ) → g ≤ k → AllBelow m g ws → FitFrom q m k (map copy ws)
@@ -31,7 +31,7 @@ copies_fit q m g [] k l h = tt
 copies_fit q m g (wires.Input i ∷ ws) k l h = ((h.0, refl, refl), copies_fit q m g ws (k + 1) (omega arith) h.1)
 copies_fit q m g (wires.Gate j ∷ ws) k l h = ((let b : j < k = omega arith in b, refl, refl), copies_fit q m g ws (k + 1) (omega arith) h.1)
 
-fit_append : (q m g : ℕ) (xs ys : List Step) → FitFrom q m g xs → FitFrom q m (g + length xs) ys → FitFrom q m g (xs ++ ys)
+fit_append : (q m g : ℕ) (xs ys : List DraftGate) → FitFrom q m g xs → FitFrom q m (g + length xs) ys → FitFrom q m g (xs ++ ys)
 fit_append q m g [] ys h l = subst (λ k. FitFrom q m k ys) (let e : g + 0 ≡ g = omega arith in e) l
 fit_append q m g (x ∷ xs) ys h l = (h.0, fit_append q m (g + 1) xs ys h.1 (subst (λ k. FitFrom q m k ys) (let e : g + suc (length xs) ≡ g + 1 + length xs = omega arith in e) l))
 
@@ -40,14 +40,14 @@ pub all_fit : (q m : ℕ) (known : List ℕ → Bool) (d : Draft) → DraftFits 
 all_fit q m known d f = fit_append q m 0 d.gates (map copy d.outputs) f.fits (copies_fit q m (length d.gates) d.outputs (0 + length d.gates) (omega arith) f.outputs)
 
 -- a wire that one of the gates sets
-set_yes : (m g : ℕ) (ss : List Step) (w : ℕ) → m + g ≤ w → w < m + g + length ss → list_any (λ (h : Gate). h.output == w) (gates_from m g ss) ≡ true
+set_yes : (m g : ℕ) (ss : List DraftGate) (w : ℕ) → m + g ≤ w → w < m + g + length ss → list_any (λ (h : Gate). h.output == w) (gates_from m g ss) ≡ true
 set_yes m g [] w l h = absurd (omega arith)
 set_yes m g (s ∷ ss) w l h = elim (eqb_tells (m + g) w) [
   | inl same ↦ ap (λ b. b || list_any (λ (h : Gate). h.output == w) (gates_from m (g + 1) ss)) same.0
   | inr other ↦ ap (λ b. b || list_any (λ (h : Gate). h.output == w) (gates_from m (g + 1) ss)) other.0 ∙ set_yes m (g + 1) ss w (omega (arith, other.1)) (omega arith)
 ]
 
-set_no : (m g : ℕ) (ss : List Step) (w : ℕ) → m + g + length ss ≤ w → list_any (λ (h : Gate). h.output == w) (gates_from m g ss) ≡ false
+set_no : (m g : ℕ) (ss : List DraftGate) (w : ℕ) → m + g + length ss ≤ w → list_any (λ (h : Gate). h.output == w) (gates_from m g ss) ≡ false
 set_no m g [] w l = refl
 set_no m g (s ∷ ss) w l = elim (eqb_tells (m + g) w) [
   | inl same ↦ absurd (omega (arith, same.1))
@@ -55,34 +55,34 @@ set_no m g (s ∷ ss) w l = elim (eqb_tells (m + g) w) [
 ]
 
 -- exactly the first wires are set
-pub is_set_below : (m : ℕ) (ss : List Step) (w : ℕ) → w < m + length ss → is_set m (gates_from m 0 ss) w ≡ true
+pub is_set_below : (m : ℕ) (ss : List DraftGate) (w : ℕ) → w < m + length ss → is_set m (gates_from m 0 ss) w ≡ true
 is_set_below m ss w l = elim (lt_or_not w m) [
   | inl less ↦ ap (λ b. b || list_any (λ (h : Gate). h.output == w) (gates_from m 0 ss)) (lt-ltb w m less)
   | inr more ↦ ap (λ b. nat_lt w m || b) (set_yes m 0 ss w (omega arith) (omega arith)) ∙ or_true (nat_lt w m)
 ]
 
-is_set_not : (m : ℕ) (ss : List Step) (w : ℕ) → m + length ss ≤ w → is_set m (gates_from m 0 ss) w ≡ false
+is_set_not : (m : ℕ) (ss : List DraftGate) (w : ℕ) → m + length ss ≤ w → is_set m (gates_from m 0 ss) w ≡ false
 is_set_not m ss w l = ap (λ b. b || list_any (λ (h : Gate). h.output == w) (gates_from m 0 ss)) (le-ltb w m (omega arith)) ∙ set_no m 0 ss w (omega arith)
 
-pub long_gates : (m g : ℕ) (ss : List Step) → length (gates_from m g ss) ≡ length ss
+pub long_gates : (m g : ℕ) (ss : List DraftGate) → length (gates_from m g ss) ≡ length ss
 long_gates m g [] = refl
 long_gates m g (s ∷ ss) = ap suc (long_gates m (g + 1) ss)
 
-take_gates : (m g t : ℕ) (ss : List Step) → take t (gates_from m g ss) ≡ gates_from m g (take t ss)
+take_gates : (m g t : ℕ) (ss : List DraftGate) → take t (gates_from m g ss) ≡ gates_from m g (take t ss)
 take_gates m g zero ss = refl
 take_gates m g (suc t) [] = refl
 take_gates m g (suc t) (s ∷ ss) = ap (λ gs. gate_of m g s ∷ gs) (take_gates m (g + 1) t ss)
 
 -- gate number t
-pub gate_at : (m g t : ℕ) (ss : List Step) → t < length ss → get_or (gates_from m g ss) t no_gate ≡ gate_of m (g + t) (get_or ss t (copy no_wire))
+pub gate_at : (m g t : ℕ) (ss : List DraftGate) → t < length ss → get_or (gates_from m g ss) t no_gate ≡ gate_of m (g + t) (get_or ss t (copy no_wire))
 gate_at m g t [] l = absurd (omega arith)
 gate_at m g zero (s ∷ ss) l = ap (λ k. gate_of m k s) (let e : g ≡ g + 0 = omega arith in e)
 gate_at m g (suc t) (s ∷ ss) l = gate_at m (g + 1) t ss (omega arith) ∙ ap (λ k. gate_of m k (get_or ss t (copy no_wire))) (let e : g + 1 + t ≡ g + suc t = omega arith in e)
 
-pub step_fits : (q m g t : ℕ) (ss : List Step) → t < length ss → FitFrom q m g ss → StepFits q m (g + t) (get_or ss t (copy no_wire))
-step_fits q m g t [] l h = absurd (omega arith)
-step_fits q m g zero (s ∷ ss) l h = subst (λ k. StepFits q m k s) (let e : g ≡ g + 0 = omega arith in e) h.0
-step_fits q m g (suc t) (s ∷ ss) l h = subst (λ k. StepFits q m k (get_or ss t (copy no_wire))) (let e : g + 1 + t ≡ g + suc t = omega arith in e) (step_fits q m (g + 1) t ss (omega arith) h.1)
+pub draft_gate_fits : (q m g t : ℕ) (ss : List DraftGate) → t < length ss → FitFrom q m g ss → DraftGateFits q m (g + t) (get_or ss t (copy no_wire))
+draft_gate_fits q m g t [] l h = absurd (omega arith)
+draft_gate_fits q m g zero (s ∷ ss) l h = subst (λ k. DraftGateFits q m k s) (let e : g ≡ g + 0 = omega arith in e) h.0
+draft_gate_fits q m g (suc t) (s ∷ ss) l h = subst (λ k. DraftGateFits q m k (get_or ss t (copy no_wire))) (let e : g + 1 + t ≡ g + suc t = omega arith in e) (draft_gate_fits q m (g + 1) t ss (omega arith) h.1)
 
 number_below : (m g : ℕ) (w : Wire) → IsBelow m g w → number_of m w < m + g
 number_below m g (wires.Input i) h = omega arith
@@ -157,7 +157,7 @@ pub circuit_is : (bits : ℕ) (known : List ℕ → Bool) (d : Draft) → 0 < bi
 unfolding netlist
 circuit_is bits known d some few small f =
     let m : ℕ = d.inputs in
-    let ss : List Step = all_gates d in
+    let ss : List DraftGate = all_gates d in
     let c : Netlist = netlist bits d in
     let all : FitFrom (2 ^ bits) m 0 ss = all_fit (2 ^ bits) m known d f in
     let long : length c.gates ≡ length ss = long_gates m 0 ss in
@@ -177,8 +177,8 @@ circuit_is bits known d some few small f =
       };
       fits = λ t l.
           let here : t < length ss = omega (arith, long, l) in
-          let s : Step = get_or ss t (copy no_wire) in
-          let fit : StepFits (2 ^ bits) m (0 + t) s = step_fits (2 ^ bits) m 0 t ss here all in
+          let s : DraftGate = get_or ss t (copy no_wire) in
+          let fit : DraftGateFits (2 ^ bits) m (0 + t) s = draft_gate_fits (2 ^ bits) m 0 t ss here all in
           let before : take t c.gates ≡ gates_from m 0 (take t ss) = take_gates m 0 t ss in
           let taken : length (take t ss) ≡ t = length-take-le t ss (omega arith) in
           subst (λ (g : Gate). GateFits c (take t c.gates) g) (sym (gate_at m 0 t ss here))
@@ -199,11 +199,11 @@ pub gate_named : (bits : ℕ) (known : List ℕ → Bool) (d : Draft) → DraftF
 unfolding netlist
 gate_named bits known d f t l =
     let m : ℕ = d.inputs in
-    let ss : List Step = all_gates d in
+    let ss : List DraftGate = all_gates d in
     let here : t < length ss = omega (arith, long_gates m 0 ss, l) in
-    let s : Step = get_or ss t (copy no_wire) in
+    let s : DraftGate = get_or ss t (copy no_wire) in
     subst (HasOperation layouts.Ring) (sym (gate_at m 0 t ss here))
-    (named (2 ^ bits) m (0 + t) s.operation s.first s.second s.constant (step_fits (2 ^ bits) m 0 t ss here (all_fit (2 ^ bits) m known d f)))
+    (named (2 ^ bits) m (0 + t) s.operation s.first s.second s.constant (draft_gate_fits (2 ^ bits) m 0 t ss here (all_fit (2 ^ bits) m known d f)))
 
 not_large : (a b x y : Bool) → ((a || b) || (x || y)) ≡ false → (a ≡ false) × (x ≡ false) × (y ≡ false)
 not_large false false false false e = (refl, refl, refl)

@@ -6,7 +6,7 @@ use Rattle.std.specs.Str.Lossy.{utf8_valid_len}
 use Rattle.text_tokens.specs.RunTokens.{bare}
 use Rattle.expr_circuit.specs.declared.fault.ExprFault.{ExprFault}
 use Rattle.expr_circuit.specs.declared.fault.ExprFault.TheVariants.{NotUtf8, TooLarge}
-use Rattle.expr_circuit.specs.Grammar.{Line, spell_line}
+use Rattle.expr_circuit.specs.Grammar.{LineForm, spell_line}
 use Rattle.expr_circuit.specs.Programs.{Statement, statement}
 use Rattle.expr_circuit.specs.Faults.{Says, IsBlank, AreLines, knows, none_known, lines}
 use Rattle.expr_circuit.specs.Circuits.{Draft, no_lines, draft_of, is_large, circuit}
@@ -80,10 +80,10 @@ fault_found bits text f (too_large e u p said large) =
 one_said : (q : ℕ) (known : List ℕ → Bool) (line : List ℕ) (n : ℕ) (s t : Statement) → Says q known line n s → Says q known line n t → s ≡ t
 one_said q known line n s t a b = a.meant ∙ ap (statement line) (one_line a.form b.form (a.parsed.spelled ∙ sym b.parsed.spelled)) ∙ sym b.meant
 
-spelled_some : (l : Line) → spell_line l ≡ [] → ⊥
-spelled_some (Line.input_line x) e = cc
-spelled_some (Line.let_line x y) e = cc
-spelled_some (Line.output_line y) e = cc
+spelled_some : (l : LineForm) → spell_line l ≡ [] → ⊥
+spelled_some (LineForm.input_line x) e = cc
+spelled_some (LineForm.let_line x y) e = cc
+spelled_some (LineForm.output_line y) e = cc
 
 said_not_blank : (q : ℕ) (known : List ℕ → Bool) (line : List ℕ) (n : ℕ) (s : Statement) → Says q known line n s → IsBlank line → ⊥
 said_not_blank q known line n s says blank = spelled_some says.form (says.parsed.spelled ∙ ap bare blank)

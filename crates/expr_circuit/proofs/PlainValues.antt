@@ -15,7 +15,7 @@ use Rattle.circuit_model.specs.Circuits.{operate}
 use Rattle.circuit_model.specs.declared.gate.Operation.TheVariants.{Add, Sub, Neg, Mul, Eq}
 use Rattle.expr_circuit.specs.declared.wire.Wire.{Wire}
 use Rattle.expr_circuit.specs.declared.wire.Wire.TheVariants as wires
-use Rattle.expr_circuit.specs.declared.wire.Step.{Step}
+use Rattle.expr_circuit.specs.declared.wire.DraftGate.{DraftGate}
 use Rattle.expr_circuit.specs.Programs.{Term, Statement, value, bind, outputs_after, program_value}
 use Rattle.expr_circuit.specs.Programs.Term.{constant, variable, negative, sum, subtraction, product}
 use Rattle.expr_circuit.specs.Programs.Statement.{input, define, output}
@@ -25,27 +25,27 @@ use Rattle.expr_circuit.proofs.GoodPrograms.{IsGood, AreGood}
 use Rattle.expr_circuit.proofs.Wires.{Tells, bind_tells, inputs_named, inputs_after}
 
 -- the words P solve the equation of gate g
-abbrev pub Holds : ℕ → ℕ → (ℕ → ℕ) → ℕ → Step → Type 0
+abbrev pub Holds : ℕ → ℕ → (ℕ → ℕ) → ℕ → DraftGate → Type 0
 Holds q m P g s = P (m + g) ≡ operate q s.operation s.constant (P (number_of m s.first)) (P (number_of m s.second))
 
-abbrev pub HoldFrom : ℕ → ℕ → (ℕ → ℕ) → ℕ → List Step → Type 0
+abbrev pub HoldFrom : ℕ → ℕ → (ℕ → ℕ) → ℕ → List DraftGate → Type 0
 HoldFrom q m P g [] = Unit {0}
 HoldFrom q m P g (s ∷ ss) = Holds q m P g s × HoldFrom q m P (g + 1) ss
 
-pub hold_front : (q m : ℕ) (P : ℕ → ℕ) (g : ℕ) (xs ys : List Step) → HoldFrom q m P g (xs ++ ys) → HoldFrom q m P g xs
+pub hold_front : (q m : ℕ) (P : ℕ → ℕ) (g : ℕ) (xs ys : List DraftGate) → HoldFrom q m P g (xs ++ ys) → HoldFrom q m P g xs
 hold_front q m P g [] ys h = tt
 hold_front q m P g (x ∷ xs) ys h = (h.0, hold_front q m P (g + 1) xs ys h.1)
 
-pub hold_back : (q m : ℕ) (P : ℕ → ℕ) (g : ℕ) (xs ys : List Step) → HoldFrom q m P g (xs ++ ys) → HoldFrom q m P (g + length xs) ys
+pub hold_back : (q m : ℕ) (P : ℕ → ℕ) (g : ℕ) (xs ys : List DraftGate) → HoldFrom q m P g (xs ++ ys) → HoldFrom q m P (g + length xs) ys
 hold_back q m P g [] ys h = subst (λ k. HoldFrom q m P k ys) (let e : g ≡ g + 0 = omega arith in e) h
 hold_back q m P g (x ∷ xs) ys h = subst (λ k. HoldFrom q m P k ys) (let e : g + 1 + length xs ≡ g + suc (length xs) = omega arith in e) (hold_back q m P (g + 1) xs ys h.1)
 
 -- the equation of a gate that was added
-added : (q m : ℕ) (P : ℕ → ℕ) (gates : List Step) (s : Step) → HoldFrom q m P 0 (gates ++ (s ∷ [])) → Holds q m P (length gates) s
+added : (q m : ℕ) (P : ℕ → ℕ) (gates : List DraftGate) (s : DraftGate) → HoldFrom q m P 0 (gates ++ (s ∷ [])) → Holds q m P (length gates) s
 added q m P gates s h = subst (λ k. Holds q m P k s) (let e : 0 + length gates ≡ length gates = omega arith in e) (hold_back q m P 0 gates (s ∷ []) h).0
 
 -- the gates before an expression
-pub build_front : (q m : ℕ) (P : ℕ → ℕ) (of : List ℕ → Option Wire) (gates : List Step) (t : Term) → HoldFrom q m P 0 (build of gates t).gates → HoldFrom q m P 0 gates
+pub build_front : (q m : ℕ) (P : ℕ → ℕ) (of : List ℕ → Option Wire) (gates : List DraftGate) (t : Term) → HoldFrom q m P 0 (build of gates t).gates → HoldFrom q m P 0 gates
 build_front q m P of gates (constant n) h = hold_front q m P 0 gates (record { operation = Eq; first = no_wire; second = no_wire; constant = n } ∷ []) h
 build_front q m P of gates (variable x) h = h
 build_front q m P of gates (negative t) h = build_front q m P of gates t (hold_front q m P 0 (build of gates t).gates (record { operation = Neg; first = (build of gates t).wire; second = no_wire; constant = 0 } ∷ []) h)
@@ -71,31 +71,31 @@ small_mod : (n q : ℕ) → n < q → n % q ≡ n
 small_mod n q l = mod-eq_of_lt l
 
 -- the word of the wire of an expression is its value
-pub build_value : (q m : ℕ) (P : ℕ → ℕ) (known : List ℕ → Bool) (of : List ℕ → Option Wire) (v : List ℕ → ℕ) (gates : List Step) (t : Term)
+pub build_value : (q m : ℕ) (P : ℕ → ℕ) (known : List ℕ → Bool) (of : List ℕ → Option Wire) (v : List ℕ → ℕ) (gates : List DraftGate) (t : Term)
     → Tells known of → HasValues m P of v → IsGood q known t → HoldFrom q m P 0 (build of gates t).gates → P (number_of m (build of gates t).wire) ≡ value q v t
 build_value q m P known of v gates (constant n) tells has good h =
     added q m P gates (record { operation = Eq; first = no_wire; second = no_wire; constant = n }) h ∙ small_mod n q good
 build_value q m P known of v gates (variable x) tells has good h = known_value (of x) m P (v x) (sym (tells x) ∙ good) (has x)
 build_value q m P known of v gates (negative t) tells has good h =
-    let s : Step = record { operation = Neg; first = (build of gates t).wire; second = no_wire; constant = 0 } in
+    let s : DraftGate = record { operation = Neg; first = (build of gates t).wire; second = no_wire; constant = 0 } in
     added q m P (build of gates t).gates s h
     ∙ ap (difference q 0) (build_value q m P known of v gates t tells has good (hold_front q m P 0 (build of gates t).gates (s ∷ []) h))
 build_value q m P known of v gates (sum s t) tells has good h =
-    let step : Step = record { operation = Add; first = (build of gates s).wire; second = (build of (build of gates s).gates t).wire; constant = 0 } in
-    let later = hold_front q m P 0 (build of (build of gates s).gates t).gates (step ∷ []) h in
-    added q m P (build of (build of gates s).gates t).gates step h
+    let gate : DraftGate = record { operation = Add; first = (build of gates s).wire; second = (build of (build of gates s).gates t).wire; constant = 0 } in
+    let later = hold_front q m P 0 (build of (build of gates s).gates t).gates (gate ∷ []) h in
+    added q m P (build of (build of gates s).gates t).gates gate h
     ∙ ap₂ (λ a b. (a + b) % q) (build_value q m P known of v gates s tells has good.0 (build_front q m P of (build of gates s).gates t later))
     (build_value q m P known of v (build of gates s).gates t tells has good.1 later)
 build_value q m P known of v gates (subtraction s t) tells has good h =
-    let step : Step = record { operation = Sub; first = (build of gates s).wire; second = (build of (build of gates s).gates t).wire; constant = 0 } in
-    let later = hold_front q m P 0 (build of (build of gates s).gates t).gates (step ∷ []) h in
-    added q m P (build of (build of gates s).gates t).gates step h
+    let gate : DraftGate = record { operation = Sub; first = (build of gates s).wire; second = (build of (build of gates s).gates t).wire; constant = 0 } in
+    let later = hold_front q m P 0 (build of (build of gates s).gates t).gates (gate ∷ []) h in
+    added q m P (build of (build of gates s).gates t).gates gate h
     ∙ ap₂ (difference q) (build_value q m P known of v gates s tells has good.0 (build_front q m P of (build of gates s).gates t later))
     (build_value q m P known of v (build of gates s).gates t tells has good.1 later)
 build_value q m P known of v gates (product s t) tells has good h =
-    let step : Step = record { operation = Mul; first = (build of gates s).wire; second = (build of (build of gates s).gates t).wire; constant = 0 } in
-    let later = hold_front q m P 0 (build of (build of gates s).gates t).gates (step ∷ []) h in
-    added q m P (build of (build of gates s).gates t).gates step h
+    let gate : DraftGate = record { operation = Mul; first = (build of gates s).wire; second = (build of (build of gates s).gates t).wire; constant = 0 } in
+    let later = hold_front q m P 0 (build of (build of gates s).gates t).gates (gate ∷ []) h in
+    added q m P (build of (build of gates s).gates t).gates gate h
     ∙ ap₂ (λ a b. a * b % q) (build_value q m P known of v gates s tells has good.0 (build_front q m P of (build of gates s).gates t later))
     (build_value q m P known of v (build of gates s).gates t tells has good.1 later)
 
@@ -153,7 +153,7 @@ pub copied_words : (q m : ℕ) (P : ℕ → ℕ) (g : ℕ) (ws : List Wire) → 
 copied_words q m P g [] h = refl
 copied_words q m P g (w ∷ ws) h = ap₂ (λ x xs. x ∷ xs) h.0 (ap (λ k. map P (range_with_len k (length ws))) (let e : m + g + 1 ≡ m + (g + 1) = omega arith in e) ∙ copied_words q m P (g + 1) ws h.1)
 
-hold_all : (q m : ℕ) (P : ℕ → ℕ) (g : ℕ) (ss : List Step) → ((t : ℕ) → t < length ss → Holds q m P (g + t) (get_or ss t (copy no_wire))) → HoldFrom q m P g ss
+hold_all : (q m : ℕ) (P : ℕ → ℕ) (g : ℕ) (ss : List DraftGate) → ((t : ℕ) → t < length ss → Holds q m P (g + t) (get_or ss t (copy no_wire))) → HoldFrom q m P g ss
 hold_all q m P g [] h = tt
 hold_all q m P g (s ∷ ss) h = (
   subst (λ k. Holds q m P k s) (let e : g + 0 ≡ g = omega arith in e) (h 0 (omega arith)),
@@ -165,7 +165,7 @@ pub plain_hold : (bits : ℕ) (d : Draft) (inputs : ℕ → ℕ) → Solves (net
 unfolding netlist
 plain_hold bits d inputs solves =
     let m : ℕ = d.inputs in
-    let ss : List Step = all_gates d in
+    let ss : List DraftGate = all_gates d in
     let c : Netlist = netlist bits d in
     let P : ℕ → ℕ = plain c inputs in
     hold_all (2 ^ bits) m P 0 ss (λ t l.

@@ -6,13 +6,13 @@ use Rattle.std.proofs.lemmas.Bool.{ltb-true, ltb-false}
 use Rattle.text_tokens.specs.RunTokens.{Placed, bare, tokens}
 use Rattle.text_tokens.specs.FirstFaults.{AreFine, StopsAt, EndsAt}
 use Rattle.text_tokens.proofs.FirstFaults.{bare-append, viable_front, fine_last}
-use Rattle.expr_circuit.specs.declared.token.Token.{Token}
+use Rattle.expr_circuit.specs.declared.token.LineToken.{LineToken}
 use Rattle.expr_circuit.specs.declared.fault.ExprFault.{ExprFault}
 use Rattle.expr_circuit.specs.declared.fault.ExprFault.TheVariants.{Syntax, TooDeep}
 use Rattle.expr_circuit.specs.Tokens.{line_language}
-use Rattle.expr_circuit.specs.Grammar.{Line, spell_line, IsViable}
+use Rattle.expr_circuit.specs.Grammar.{LineForm, spell_line, IsViable}
 use Rattle.expr_circuit.specs.Grammar.Expr.{one_prod, plus, minus}
-use Rattle.expr_circuit.specs.Grammar.Line.{input_line, let_line, output_line}
+use Rattle.expr_circuit.specs.Grammar.LineForm.{input_line, let_line, output_line}
 use Rattle.expr_circuit.specs.Faults.{open_signs, IsShallow, IsFine, Parses, IsBlank, LineFault}
 use Rattle.expr_circuit.specs.Faults.LineFault.{syntax_fault, end_fault, depth_fault}
 use Rattle.expr_circuit.specs.Machine.{State, start, step, depth}
@@ -21,10 +21,10 @@ use Rattle.list_laws.specs.Answers.{◌>>=◌}
 use Rattle.expr_circuit.proofs.MachineRuns.{step_from, run, run_none, run-append, run_line, finish_line, end_of, read_of}
 use Rattle.expr_circuit.proofs.Partials.{run_viable, run_depth, viable_run, finish_spelled, first_blank}
 
-abbrev pub AllShallow : List Token → Type 0
+abbrev pub AllShallow : List LineToken → Type 0
 AllShallow ts = (k : ℕ) → IsShallow (take k ts)
 
-shallow_push : (ts : List Token) (t : Token) → AllShallow ts → IsShallow (ts ++ (t ∷ [])) → AllShallow (ts ++ (t ∷ []))
+shallow_push : (ts : List LineToken) (t : LineToken) → AllShallow ts → IsShallow (ts ++ (t ∷ [])) → AllShallow (ts ++ (t ∷ []))
 shallow_push ts t all here k = elim (le_or_more k (length ts)) [
   | inl within ↦ subst IsShallow (sym (take-append-le k ts (t ∷ []) within)) (all k)
   | inr past ↦ subst IsShallow (sym (take_past k (ts ++ (t ∷ [])) (omega (arith, length-append ts (t ∷ []))))) here
@@ -37,16 +37,16 @@ shallow_push ts t all here k = elim (le_or_more k (length ts)) [
         test true e = inr (ltb-true b a e)
         test false e = inl (ltb-false b a e)
 
-    take_past : (k : ℕ) (xs : List Token) → length xs ≤ k → take k xs ≡ xs
+    take_past : (k : ℕ) (xs : List LineToken) → length xs ≤ k → take k xs ≡ xs
     take_past zero [] l = refl
     take_past zero (x ∷ xs) l = absurd (omega arith)
     take_past (suc k) [] l = refl
     take_past (suc k) (x ∷ xs) l = ap (λ ys. x ∷ ys) (take_past k xs (omega arith))
 
-are_fine : (ts : List Token) (s : State) → run (Some start) ts ≡ Some s → AllShallow ts → AreFine IsFine ts
+are_fine : (ts : List LineToken) (s : State) → run (Some start) ts ≡ Some s → AllShallow ts → AreFine IsFine ts
 are_fine ts s e all k = record { viable = viable_front spell_line ts k (run_viable ts s e); shallow = all k }
 
-run_push : (before : List (Placed Token)) (s : State) (t : Placed Token) → run (Some start) (bare before) ≡ Some s → run (Some start) (bare (before ++ (t ∷ []))) ≡ step s t.token
+run_push : (before : List (Placed LineToken)) (s : State) (t : Placed LineToken) → run (Some start) (bare before) ≡ Some s → run (Some start) (bare (before ++ (t ∷ []))) ≡ step s t.token
 run_push before s t e = ap (run (Some start)) (bare-append before (t ∷ [])) ∙ run-append (Some start) (bare before) (t.token ∷ []) ∙ ap (λ o. step_from o t.token) e
 
 -- what a scan of a line has found
@@ -56,7 +56,7 @@ Scanned line n (Err f) =
     ((at : ℕ) × (f ≡ Syntax n at) × StopsAt line_language IsFine line at (λ ts. IsViable ts → ⊥))
     ⊎ ((at : ℕ) × (f ≡ TooDeep n at) × StopsAt line_language IsFine line at (λ ts. IsViable ts × (IsShallow ts → ⊥)))
 
-stuck : (line : List ℕ) (before after : List (Placed Token)) (t : Placed Token) (s : State) → tokens line_language line ≡ before ++ (t ∷ after) → run (Some start) (bare before) ≡ Some s → AllShallow (bare before) → step s t.token ≡ None
+stuck : (line : List ℕ) (before after : List (Placed LineToken)) (t : Placed LineToken) (s : State) → tokens line_language line ≡ before ++ (t ∷ after) → run (Some start) (bare before) ≡ Some s → AllShallow (bare before) → step s t.token ≡ None
     → StopsAt line_language IsFine line t.at (λ ts. IsViable ts → ⊥)
 stuck line before after t s cut e all none = record {
   before = before;
@@ -68,7 +68,7 @@ stuck line before after t s cut e all none = record {
   fault = λ v. let r = viable_run (bare (before ++ (t ∷ []))) v in let no : None ≡ Some r.0 = sym none ∙ sym (run_push before s t e) ∙ r.1 in cc;
 }
 
-deep : (line : List ℕ) (before after : List (Placed Token)) (t : Placed Token) (s next : State) → tokens line_language line ≡ before ++ (t ∷ after) → run (Some start) (bare before) ≡ Some s → AllShallow (bare before) → step s t.token ≡ Some next → 32 < depth next
+deep : (line : List ℕ) (before after : List (Placed LineToken)) (t : Placed LineToken) (s next : State) → tokens line_language line ≡ before ++ (t ∷ after) → run (Some start) (bare before) ≡ Some s → AllShallow (bare before) → step s t.token ≡ Some next → 32 < depth next
     → StopsAt line_language IsFine line t.at (λ ts. IsViable ts × (IsShallow ts → ⊥))
 deep line before after t s next cut e all goes low =
     let r : run (Some start) (bare (before ++ (t ∷ []))) ≡ Some next = run_push before s t e ∙ goes in
@@ -82,10 +82,10 @@ deep line before after t s next cut e all goes low =
       fault = (run_viable (bare (before ++ (t ∷ []))) next r, λ few. absurd (omega (arith, low, few, run_depth (bare (before ++ (t ∷ []))) next r)));
     }
 
-abbrev Goes : List ℕ → ℕ → List (Placed Token) → Type 0
-Goes line n ts = (before : List (Placed Token)) (s : State) → tokens line_language line ≡ before ++ ts → run (Some start) (bare before) ≡ Some s → AllShallow (bare before) → Scanned line n (scan n s ts)
+abbrev Goes : List ℕ → ℕ → List (Placed LineToken) → Type 0
+Goes line n ts = (before : List (Placed LineToken)) (s : State) → tokens line_language line ≡ before ++ ts → run (Some start) (bare before) ≡ Some s → AllShallow (bare before) → Scanned line n (scan n s ts)
 
-scanned_deep : (line : List ℕ) (n : ℕ) (before ts : List (Placed Token)) (t : Placed Token) (s next : State) → tokens line_language line ≡ before ++ (t ∷ ts) → run (Some start) (bare before) ≡ Some s → AllShallow (bare before) → step s t.token ≡ Some next
+scanned_deep : (line : List ℕ) (n : ℕ) (before ts : List (Placed LineToken)) (t : Placed LineToken) (s next : State) → tokens line_language line ≡ before ++ (t ∷ ts) → run (Some start) (bare before) ≡ Some s → AllShallow (bare before) → step s t.token ≡ Some next
     → Goes line n ts → (x : Bool) → nat_lt 32 (depth next) ≡ x → Scanned line n (cond x (Err (TooDeep n t.at)) (Ok next) >>= (λ m. scan n m ts))
 scanned_deep line n before ts t s next cut e all goes ih true low = inr (t.at, refl, deep line before ts t s next cut e all goes (ltb-true 32 (depth next) low))
 scanned_deep line n before ts t s next cut e all goes ih false low =
@@ -94,19 +94,19 @@ scanned_deep line n before ts t s next cut e all goes ih false low =
     (subst AllShallow (sym (bare-append before (t ∷ []))) (shallow_push (bare before) t.token all
     (subst IsShallow (bare-append before (t ∷ [])) (let few : length (open_signs (bare (before ++ (t ∷ [])))) ≤ 32 = omega (arith, ltb-false 32 (depth next) low, run_depth (bare (before ++ (t ∷ []))) next r) in few))))
 
-scanned_step : (line : List ℕ) (n : ℕ) (before ts : List (Placed Token)) (t : Placed Token) (s : State) → tokens line_language line ≡ before ++ (t ∷ ts) → run (Some start) (bare before) ≡ Some s → AllShallow (bare before)
+scanned_step : (line : List ℕ) (n : ℕ) (before ts : List (Placed LineToken)) (t : Placed LineToken) (s : State) → tokens line_language line ≡ before ++ (t ∷ ts) → run (Some start) (bare before) ≡ Some s → AllShallow (bare before)
     → Goes line n ts → (o : Option State) → step s t.token ≡ o → Scanned line n (stepped n t.at o >>= (λ m. scan n m ts))
 scanned_step line n before ts t s cut e all ih None none = inl (t.at, refl, stuck line before ts t s cut e all none)
 scanned_step line n before ts t s cut e all ih (Some next) goes = scanned_deep line n before ts t s next cut e all goes ih (nat_lt 32 (depth next)) refl
 
-nil_right : (xs : List (Placed Token)) → xs ++ [] ≡ xs
+nil_right : (xs : List (Placed LineToken)) → xs ++ [] ≡ xs
 nil_right [] = refl
 nil_right (x ∷ xs) = ap (λ ys. x ∷ ys) (nil_right xs)
 
-pub scanned : (line : List ℕ) (n : ℕ) (ts : List (Placed Token)) → Goes line n ts
+pub scanned : (line : List ℕ) (n : ℕ) (ts : List (Placed LineToken)) → Goes line n ts
 scanned line n [] before s cut e all =
     let same : tokens line_language line ≡ before = cut ∙ nil_right before in
-    (ap (λ ts. run (Some start) (bare ts)) same ∙ e, subst (λ (ts : List (Placed Token)). AllShallow (bare ts)) (sym same) all)
+    (ap (λ ts. run (Some start) (bare ts)) same ∙ e, subst (λ (ts : List (Placed LineToken)). AllShallow (bare ts)) (sym same) all)
 scanned line n (t ∷ ts) before s cut e all = scanned_step line n before ts t s cut e all (scanned line n ts) (step s t.token) refl
 
 -- what is found of a whole line
@@ -120,10 +120,10 @@ line_scanned line n = scanned line n (tokens line_language line) [] start refl r
 -- what is found of a line, and its end
 abbrev pub Parsed : List ℕ → ℕ → Result (Option Read) ExprFault → Type 0
 Parsed line n (Ok None) = IsBlank line
-Parsed line n (Ok (Some r)) = (l : Line) × Parses line l × (r ≡ read_of l)
+Parsed line n (Ok (Some r)) = (l : LineForm) × Parses line l × (r ≡ read_of l)
 Parsed line n (Err f) = (q : ℕ) (known : List ℕ → Bool) → LineFault q known line n f
 
-blank_tokens : (ts : List (Placed Token)) → bare ts ≡ [] → ts ≡ []
+blank_tokens : (ts : List (Placed LineToken)) → bare ts ≡ [] → ts ≡ []
 blank_tokens [] e = refl
 blank_tokens (t ∷ ts) e = cc
 
@@ -160,32 +160,32 @@ pub parsed : (line : List ℕ) (n : ℕ) → Parsed line n (parse_in n line)
 unfolding parse_in
 parsed line n = after_scan line n (scan n start (tokens line_language line)) (line_scanned line n)
 
-shallow_at : (before ts : List (Placed Token)) (t : Placed Token) → AllShallow (bare (before ++ (t ∷ ts))) → IsShallow (bare (before ++ (t ∷ [])))
+shallow_at : (before ts : List (Placed LineToken)) (t : Placed LineToken) → AllShallow (bare (before ++ (t ∷ ts))) → IsShallow (bare (before ++ (t ∷ [])))
 shallow_at before ts t all =
     let cut : before ++ (t ∷ ts) ≡ (before ++ (t ∷ [])) ++ ts = sym (append_assoc before (t ∷ []) ts) in
-    let front : List Token = bare (before ++ (t ∷ [])) in
+    let front : List LineToken = bare (before ++ (t ∷ [])) in
     subst IsShallow
     (ap (λ xs. take (length front) (bare xs)) cut ∙ ap (take (length front)) (bare-append (before ++ (t ∷ [])) ts) ∙ take-append-le (length front) front (bare ts) (omega arith) ∙ take-length front)
     (all (length front))
 
-abbrev Cleans : ℕ → List (Placed Token) → Type 0
-Cleans n ts = (before : List (Placed Token)) (s last : State) → run (Some start) (bare before) ≡ Some s → run (Some s) (bare ts) ≡ Some last → AllShallow (bare (before ++ ts)) → scan n s ts ≡ Ok last
+abbrev Cleans : ℕ → List (Placed LineToken) → Type 0
+Cleans n ts = (before : List (Placed LineToken)) (s last : State) → run (Some start) (bare before) ≡ Some s → run (Some s) (bare ts) ≡ Some last → AllShallow (bare (before ++ ts)) → scan n s ts ≡ Ok last
 
-clean_deep : (n : ℕ) (before ts : List (Placed Token)) (t : Placed Token) (s next last : State) → run (Some start) (bare before) ≡ Some s → step s t.token ≡ Some next → run (Some next) (bare ts) ≡ Some last → AllShallow (bare (before ++ (t ∷ ts)))
+clean_deep : (n : ℕ) (before ts : List (Placed LineToken)) (t : Placed LineToken) (s next last : State) → run (Some start) (bare before) ≡ Some s → step s t.token ≡ Some next → run (Some next) (bare ts) ≡ Some last → AllShallow (bare (before ++ (t ∷ ts)))
     → Cleans n ts → (x : Bool) → nat_lt 32 (depth next) ≡ x → cond x (Err (TooDeep n t.at)) (Ok next) >>= (λ m. scan n m ts) ≡ Ok last
 clean_deep n before ts t s next last e goes more all ih true low =
     let r : run (Some start) (bare (before ++ (t ∷ []))) ≡ Some next = run_push before s t e ∙ goes in
     absurd (omega (arith, ltb-true 32 (depth next) low, run_depth (bare (before ++ (t ∷ []))) next r, shallow_at before ts t all))
 clean_deep n before ts t s next last e goes more all ih false low =
-    ih (before ++ (t ∷ [])) next last (run_push before s t e ∙ goes) more (subst (λ (xs : List (Placed Token)). AllShallow (bare xs)) (sym (append_assoc before (t ∷ []) ts)) all)
+    ih (before ++ (t ∷ [])) next last (run_push before s t e ∙ goes) more (subst (λ (xs : List (Placed LineToken)). AllShallow (bare xs)) (sym (append_assoc before (t ∷ []) ts)) all)
 
-clean_step : (n : ℕ) (before ts : List (Placed Token)) (t : Placed Token) (s last : State) → run (Some start) (bare before) ≡ Some s → run (step s t.token) (bare ts) ≡ Some last → AllShallow (bare (before ++ (t ∷ ts)))
+clean_step : (n : ℕ) (before ts : List (Placed LineToken)) (t : Placed LineToken) (s last : State) → run (Some start) (bare before) ≡ Some s → run (step s t.token) (bare ts) ≡ Some last → AllShallow (bare (before ++ (t ∷ ts)))
     → Cleans n ts → (o : Option State) → step s t.token ≡ o → stepped n t.at o >>= (λ m. scan n m ts) ≡ Ok last
 clean_step n before ts t s last e more all ih None none = let gone : None ≡ Some last = sym (run_none (bare ts)) ∙ ap (λ o. run o (bare ts)) (sym none) ∙ more in cc
 clean_step n before ts t s last e more all ih (Some next) goes =
     clean_deep n before ts t s next last e goes (ap (λ o. run o (bare ts)) (sym goes) ∙ more) all ih (nat_lt 32 (depth next)) refl
 
-scan_clean : (n : ℕ) (ts : List (Placed Token)) → Cleans n ts
+scan_clean : (n : ℕ) (ts : List (Placed LineToken)) → Cleans n ts
 scan_clean n [] before s last e more all = let same : s ≡ last = cc in ap Ok same
 scan_clean n (t ∷ ts) before s last e more all = clean_step n before ts t s last e more all (scan_clean n ts) (step s t.token) refl
 
@@ -193,22 +193,22 @@ next_all : {A B C : Type 0} (r : Result A ExprFault) (f : A → Result B ExprFau
 next_all (Ok a) f g = refl
 next_all (Err x) f g = refl
 
-then_scan : (n : ℕ) (r : Result State ExprFault) (xs ys : List (Placed Token)) → ((s : State) → scan n s (xs ++ ys) ≡ scan n s xs >>= (λ m. scan n m ys))
+then_scan : (n : ℕ) (r : Result State ExprFault) (xs ys : List (Placed LineToken)) → ((s : State) → scan n s (xs ++ ys) ≡ scan n s xs >>= (λ m. scan n m ys))
     → r >>= (λ m. scan n m (xs ++ ys)) ≡ (r >>= (λ m. scan n m xs)) >>= (λ m. scan n m ys)
 then_scan n (Ok s) xs ys h = h s
 then_scan n (Err f) xs ys h = refl
 
-scan-append : (n : ℕ) (s : State) (xs ys : List (Placed Token)) → scan n s (xs ++ ys) ≡ scan n s xs >>= (λ m. scan n m ys)
+scan-append : (n : ℕ) (s : State) (xs ys : List (Placed LineToken)) → scan n s (xs ++ ys) ≡ scan n s xs >>= (λ m. scan n m ys)
 scan-append n s [] ys = refl
 scan-append n s (x ∷ xs) ys = then_scan n (stepped n x.at (step s x.token)) xs ys (λ m. scan-append n m xs ys)
 
 -- the scan of tokens of which none has a fault
-scan_fine : (n : ℕ) (ts : List (Placed Token)) → AreFine IsFine (bare ts) → (s : State) × (run (Some start) (bare ts) ≡ Some s) × (scan n start ts ≡ Ok s)
+scan_fine : (n : ℕ) (ts : List (Placed LineToken)) → AreFine IsFine (bare ts) → (s : State) × (run (Some start) (bare ts) ≡ Some s) × (scan n start ts ≡ Ok s)
 scan_fine n ts fine =
     let r = viable_run (bare ts) (fine_last IsFine (bare ts) fine).viable in
     (r.0, r.1, scan_clean n ts [] start r.0 refl r.1 (λ k. (fine k).shallow))
 
-no_step : (ts : List Token) (t : Token) (s : State) → run (Some start) ts ≡ Some s → (IsViable (ts ++ (t ∷ [])) → ⊥) → (o : Option State) → step s t ≡ o → o ≡ None
+no_step : (ts : List LineToken) (t : LineToken) (s : State) → run (Some start) ts ≡ Some s → (IsViable (ts ++ (t ∷ [])) → ⊥) → (o : Option State) → step s t ≡ o → o ≡ None
 no_step ts t s e not None h = refl
 no_step ts t s e not (Some next) h = absurd (not (run_viable (ts ++ (t ∷ [])) next (run-append (Some start) ts (t ∷ []) ∙ ap (λ o. step_from o t) e ∙ h)))
 
@@ -237,7 +237,7 @@ deep_found line n at h =
         test true e = refl
         test false no_more = absurd (h (omega (arith, ltb-false 32 d no_more, e)))
 
-not_first : (l : Line) → is_first (end_of l).mode ≡ false
+not_first : (l : LineForm) → is_first (end_of l).mode ≡ false
 not_first (input_line x) = refl
 not_first (let_line x (one_prod p)) = refl
 not_first (let_line x (plus e p)) = refl
@@ -252,7 +252,7 @@ unfolding parse_in
 blank_found line n e = ap (λ ts. scan n start ts >>= line_end n (length line)) e
 
 -- the answer for a line of the grammar
-pub line_found : (line : List ℕ) (n : ℕ) (l : Line) → Parses line l → parse_in n line ≡ Ok (Some (read_of l))
+pub line_found : (line : List ℕ) (n : ℕ) (l : LineForm) → Parses line l → parse_in n line ≡ Ok (Some (read_of l))
 unfolding parse_in
 line_found line n l h =
     let r = scan_fine n (tokens line_language line) h.fine in
@@ -262,7 +262,7 @@ line_found line n l h =
     ∙ ap (λ b. cond b (Ok None) (or_end n (length line) (finish (end_of l)))) (not_first l)
     ∙ ap (or_end n (length line)) (finish_line l)
 
-no_finish : (ts : List Token) (s : State) → run (Some start) ts ≡ Some s → ((l : Line) → spell_line l ≡ ts → ⊥) → (o : Option Read) → finish s ≡ o → o ≡ None
+no_finish : (ts : List LineToken) (s : State) → run (Some start) ts ≡ Some s → ((l : LineForm) → spell_line l ≡ ts → ⊥) → (o : Option Read) → finish s ≡ o → o ≡ None
 no_finish ts s e not None h = refl
 no_finish ts s e not (Some r) h = let g = finish_spelled ts s r e h in absurd (not g.0 g.1)
 

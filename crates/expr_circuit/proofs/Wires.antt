@@ -7,7 +7,7 @@ use Rattle.circuit_model.specs.declared.gate.Operation.{Operation}
 use Rattle.circuit_model.specs.declared.gate.Operation.TheVariants.{Add, Sub, Neg, Mul, Eq, Eqw}
 use Rattle.expr_circuit.specs.declared.wire.Wire.{Wire}
 use Rattle.expr_circuit.specs.declared.wire.Wire.TheVariants as wires
-use Rattle.expr_circuit.specs.declared.wire.Step.{Step}
+use Rattle.expr_circuit.specs.declared.wire.DraftGate.{DraftGate}
 use Rattle.expr_circuit.specs.Programs.{Term, Statement, bind}
 use Rattle.expr_circuit.specs.Programs.Term.{constant, variable, negative, sum, subtraction, product}
 use Rattle.expr_circuit.specs.Programs.Statement.{input, define, output}
@@ -30,17 +30,17 @@ FitsAs q m g Eqw a b c = IsBelow m g a × (b ≡ no_wire) × (c ≡ 0)
 FitsAs q m g Eq a b c = (a ≡ no_wire) × (b ≡ no_wire) × (c < q)
 FitsAs q m g _ a b c = ⊥
 
-abbrev pub StepFits : ℕ → ℕ → ℕ → Step → Type 0
-StepFits q m g s = FitsAs q m g s.operation s.first s.second s.constant
+abbrev pub DraftGateFits : ℕ → ℕ → ℕ → DraftGate → Type 0
+DraftGateFits q m g s = FitsAs q m g s.operation s.first s.second s.constant
 
 -- gates from number g on
-abbrev pub FitFrom : ℕ → ℕ → ℕ → List Step → Type 0
+abbrev pub FitFrom : ℕ → ℕ → ℕ → List DraftGate → Type 0
 FitFrom q m g [] = Unit {0}
-FitFrom q m g (s ∷ ss) = StepFits q m g s × FitFrom q m (g + 1) ss
+FitFrom q m g (s ∷ ss) = DraftGateFits q m g s × FitFrom q m (g + 1) ss
 
-pub fit_push : (q m g : ℕ) (ss : List Step) (s : Step) → FitFrom q m g ss → StepFits q m (g + length ss) s → FitFrom q m g (ss ++ (s ∷ []))
-fit_push q m g [] s h l = (subst (λ k. StepFits q m k s) (let e : g + 0 ≡ g = omega arith in e) l, tt)
-fit_push q m g (x ∷ ss) s h l = (h.0, fit_push q m (g + 1) ss s h.1 (subst (λ k. StepFits q m k s) (let e : g + suc (length ss) ≡ g + 1 + length ss = omega arith in e) l))
+pub fit_push : (q m g : ℕ) (ss : List DraftGate) (s : DraftGate) → FitFrom q m g ss → DraftGateFits q m (g + length ss) s → FitFrom q m g (ss ++ (s ∷ []))
+fit_push q m g [] s h l = (subst (λ k. DraftGateFits q m k s) (let e : g + 0 ≡ g = omega arith in e) l, tt)
+fit_push q m g (x ∷ ss) s h l = (h.0, fit_push q m (g + 1) ss s h.1 (subst (λ k. DraftGateFits q m k s) (let e : g + suc (length ss) ≡ g + 1 + length ss = omega arith in e) l))
 
 below_more : (m g k : ℕ) (w : Wire) → g ≤ k → IsBelow m g w → IsBelow m k w
 below_more m g k (wires.Input i) l h = h
@@ -54,7 +54,7 @@ AreBelow m g of = (x : List ℕ) (w : Wire) → of x ≡ Some w → IsBelow m g 
 abbrev pub Tells : (List ℕ → Bool) → (List ℕ → Option Wire) → Type 0
 Tells known of = (x : List ℕ) → known x ≡ is_some (of x)
 
-pub record BuiltFits (q m : ℕ) (before : List Step) (b : Built) : Type 0 where
+pub record BuiltFits (q m : ℕ) (before : List DraftGate) (b : Built) : Type 0 where
   pub fits : FitFrom q m 0 b.gates
   pub below : IsBelow m (length b.gates) b.wire
   pub more : length before ≤ length b.gates
@@ -63,19 +63,19 @@ is_known : (o : Option Wire) (m g : ℕ) → is_some o ≡ true → ((w : Wire) 
 is_known None m g e h = cc
 is_known (Some w) m g e h = h w refl
 
-push_long : (ss : List Step) (s : Step) → length (ss ++ (s ∷ [])) ≡ length ss + 1
+push_long : (ss : List DraftGate) (s : DraftGate) → length (ss ++ (s ∷ [])) ≡ length ss + 1
 push_long ss s = length-append ss (s ∷ [])
 
-add_fits : (q m : ℕ) (before gates : List Step) (o : Operation) (a b : Wire) (c : ℕ) → length before ≤ length gates → FitFrom q m 0 gates → FitsAs q m (length gates) o a b c → BuiltFits q m before (add gates o a b c)
+add_fits : (q m : ℕ) (before gates : List DraftGate) (o : Operation) (a b : Wire) (c : ℕ) → length before ≤ length gates → FitFrom q m 0 gates → FitsAs q m (length gates) o a b c → BuiltFits q m before (add gates o a b c)
 add_fits q m before gates o a b c l h f =
-    let s : Step = record { operation = o; first = a; second = b; constant = c } in
+    let s : DraftGate = record { operation = o; first = a; second = b; constant = c } in
     record {
-      fits = fit_push q m 0 gates s h (subst (λ k. StepFits q m k s) (let e : length gates ≡ 0 + length gates = omega arith in e) f);
+      fits = fit_push q m 0 gates s h (subst (λ k. DraftGateFits q m k s) (let e : length gates ≡ 0 + length gates = omega arith in e) f);
       below = omega (arith, push_long gates s);
       more = omega (arith, push_long gates s);
     }
 
-pub build_fits : (q m : ℕ) (known : List ℕ → Bool) (of : List ℕ → Option Wire) (gates : List Step) (t : Term) → Tells known of → AreBelow m (length gates) of → FitFrom q m 0 gates → IsGood q known t → BuiltFits q m gates (build of gates t)
+pub build_fits : (q m : ℕ) (known : List ℕ → Bool) (of : List ℕ → Option Wire) (gates : List DraftGate) (t : Term) → Tells known of → AreBelow m (length gates) of → FitFrom q m 0 gates → IsGood q known t → BuiltFits q m gates (build of gates t)
 build_fits q m known of gates (constant n) tells below fits good = add_fits q m gates gates Eq no_wire no_wire n (omega arith) fits (refl, refl, good)
 build_fits q m known of gates (variable x) tells below fits good =
     record { fits = fits; below = is_known (of x) m (length gates) (sym (tells x) ∙ good) (below x); more = omega arith }

@@ -6,7 +6,7 @@ use Rattle.circuit_model.specs.declared.gate.Gate.{Gate}
 use Rattle.circuit_model.specs.Netlists.{Netlist}
 use Rattle.expr_circuit.specs.declared.wire.Wire.{Wire}
 use Rattle.expr_circuit.specs.declared.wire.Wire.TheVariants as wires
-use Rattle.expr_circuit.specs.declared.wire.Step.{Step}
+use Rattle.expr_circuit.specs.declared.wire.DraftGate.{DraftGate}
 use Rattle.expr_circuit.specs.Programs.{Term, Statement, bind}
 use Rattle.expr_circuit.specs.Programs.Term.{constant, variable, negative, sum, subtraction, product}
 use Rattle.expr_circuit.specs.Programs.Statement.{input, define, output}
@@ -18,11 +18,11 @@ no_wire = wires.Input 0
 
 -- the gates so far, and a wire
 pub record Built : Type 0 where
-  pub gates : List Step
+  pub gates : List DraftGate
   pub wire : Wire
 
 -- one gate more, and its wire
-abbrev pub add : List Step → Operation → Wire → Wire → ℕ → Built
+abbrev pub add : List DraftGate → Operation → Wire → Wire → ℕ → Built
 add gates o a b c =
     record {
       gates = gates ++ (record { operation = o; first = a; second = b; constant = c } ∷ []);
@@ -33,7 +33,7 @@ abbrev pub after_one : Operation → Built → Built
 after_one o a = add a.gates o a.wire no_wire 0
 
 -- a number and each operator is a gate, after its operands, left before right; a name is its wire
-abbrev pub build : (List ℕ → Option Wire) → List Step → Term → Built
+abbrev pub build : (List ℕ → Option Wire) → List DraftGate → Term → Built
 build of gates (constant n) = add gates Eq no_wire no_wire n
 build of gates (variable x) = record { gates = gates; wire = unwrap_or (of x) no_wire }
 build of gates (negative t) = after_one Neg (build of gates t)
@@ -51,7 +51,7 @@ build of gates (product s t) =
 -- lines
 pub record Draft : Type 0 where
   pub of : List ℕ → Option Wire
-  pub gates : List Step
+  pub gates : List DraftGate
   pub inputs : ℕ
   pub outputs : List Wire
 
@@ -79,15 +79,15 @@ number_of inputs (wires.Input i) = i
 number_of inputs (wires.Gate g) = inputs + g
 
 -- a copy of a wire
-abbrev pub copy : Wire → Step
+abbrev pub copy : Wire → DraftGate
 copy w = record { operation = Eqw; first = w; second = no_wire; constant = 0 }
 
 -- all gates: after the last line each output in order is a copy
-abbrev pub all_gates : Draft → List Step
+abbrev pub all_gates : Draft → List DraftGate
 all_gates d = d.gates ++ map copy d.outputs
 
 -- gate number g, behind `inputs` inputs: it sets the next wire
-abbrev pub gate_of : ℕ → ℕ → Step → Gate
+abbrev pub gate_of : ℕ → ℕ → DraftGate → Gate
 gate_of inputs g s =
     record {
       operation = s.operation;
@@ -97,12 +97,12 @@ gate_of inputs g s =
       constant = s.constant;
     }
 
-abbrev pub gates_from : ℕ → ℕ → List Step → List Gate
+abbrev pub gates_from : ℕ → ℕ → List DraftGate → List Gate
 gates_from inputs g [] = []
 gates_from inputs g (s ∷ ss) = gate_of inputs g s ∷ gates_from inputs (g + 1) ss
 
 -- the circuit of these gates over `inputs` inputs and `outputs` outputs, each of which is a value of width 1
-abbrev pub assembled : ℕ → ℕ → List Step → ℕ → Netlist
+abbrev pub assembled : ℕ → ℕ → List DraftGate → ℕ → Netlist
 assembled bits inputs gates outputs =
     record {
       bits = bits;

@@ -5,16 +5,16 @@ use Rattle.std.specs.Option.{option_or}
 use Rattle.text_tokens.specs.RunTokens.{tokens}
 use Rattle.text_tokens.specs.FirstFaults as faults
 use Rattle.text_tokens.specs.FirstFaults.{StopsAt, EndsAt}
-use Rattle.expr_circuit.specs.declared.token.Token.{Token}
-use Rattle.expr_circuit.specs.declared.token.Token.TheVariants.{Name, Number, Minus, Open, Close}
+use Rattle.expr_circuit.specs.declared.token.LineToken.{LineToken}
+use Rattle.expr_circuit.specs.declared.token.LineToken.TheVariants.{Name, Number, Minus, Open, Close}
 use Rattle.expr_circuit.specs.declared.fault.ExprFault.{ExprFault}
 use Rattle.expr_circuit.specs.declared.fault.ExprFault.TheVariants.{Syntax, UnknownName, BadConstant, TooDeep, TwiceNamed}
 use Rattle.expr_circuit.specs.Tokens.{line_language, is_line_end}
-use Rattle.expr_circuit.specs.Grammar.{Expr, Prod, Unary, Line, spell_line, IsViable}
+use Rattle.expr_circuit.specs.Grammar.{Expr, Prod, Unary, LineForm, spell_line, IsViable}
 use Rattle.expr_circuit.specs.Grammar.Expr.{one_prod, plus, minus}
 use Rattle.expr_circuit.specs.Grammar.Prod.{one_unary, times}
 use Rattle.expr_circuit.specs.Grammar.Unary.{negated, number, named, grouped}
-use Rattle.expr_circuit.specs.Grammar.Line.{input_line, let_line, output_line}
+use Rattle.expr_circuit.specs.Grammar.LineForm.{input_line, let_line, output_line}
 use Rattle.expr_circuit.specs.Programs.{Statement, name_at, number_at, statement, bind}
 use Rattle.expr_circuit.specs.Programs.Statement.{input, define, output}
 use Rattle.expr_circuit.specs.declared.limits.TheConstants.{MOST_OPEN}
@@ -36,7 +36,7 @@ pub record Signs : Type 0 where
   pub signs : List Sign
 
 -- a minus is open where an operand is wanted, and not between two operands
-abbrev pub after_token : Signs → Token → Signs
+abbrev pub after_token : Signs → LineToken → Signs
 after_token s (Name at) = record { wanted = false; signs = ended s.signs }
 after_token s (Number at) = record { wanted = false; signs = ended s.signs }
 after_token s Close = record { wanted = false; signs = ended (drop 1 (ended s.signs)) }
@@ -44,20 +44,20 @@ after_token s Open = record { wanted = true; signs = parenthesis ∷ s.signs }
 after_token s Minus = record { wanted = true; signs = if s.wanted then minus_sign ∷ s.signs else s.signs }
 after_token s _ = record { wanted = true; signs = s.signs }
 
-abbrev pub after_tokens : Signs → List Token → Signs
+abbrev pub after_tokens : Signs → List LineToken → Signs
 after_tokens s [] = s
 after_tokens s (t ∷ ts) = after_tokens (after_token s t) ts
 
 -- the signs that are open after the tokens
-abbrev pub open_signs : List Token → List Sign
+abbrev pub open_signs : List LineToken → List Sign
 open_signs ts = (after_tokens (record { wanted = true; signs = [] }) ts).signs
 
 -- at most 32 signs are open after the tokens
-abbrev pub IsShallow : List Token → Type 0
+abbrev pub IsShallow : List LineToken → Type 0
 IsShallow ts = length (open_signs ts) ≤ MOST_OPEN
 
 -- the last of the tokens has no fault: some line begins with them, and at most 32 signs are open after them
-pub record IsFine (ts : List Token) : Type 0 where
+pub record IsFine (ts : List LineToken) : Type 0 where
   pub viable : IsViable ts
   pub shallow : IsShallow ts
 
@@ -66,7 +66,7 @@ abbrev pub IsBlank : List ℕ → Type 0
 IsBlank line = tokens line_language line ≡ []
 
 -- the line is this one of the grammar, and none of its tokens has a fault
-abbrev pub Parses : List ℕ → Line → Type 0
+abbrev pub Parses : List ℕ → LineForm → Type 0
 Parses line l = faults.Parses line_language IsFine spell_line line l
 
 -- the fault of a name that no earlier line gives
@@ -99,7 +99,7 @@ abbrev pub twice : (List ℕ → Bool) → List ℕ → ℕ → ℕ → Option E
 twice known line n at = if known (name_at line at) then Some (TwiceNamed n) else None
 
 -- the fault of a line that is one of the grammar
-abbrev pub bad_line : ℕ → (List ℕ → Bool) → List ℕ → ℕ → Line → Option ExprFault
+abbrev pub bad_line : ℕ → (List ℕ → Bool) → List ℕ → ℕ → LineForm → Option ExprFault
 bad_line q known line n (input_line x) = twice known line n x
 bad_line q known line n (let_line x e) = option_or (bad q known line n e) (twice known line n x)
 bad_line q known line n (output_line e) = bad q known line n e
@@ -112,7 +112,7 @@ knows known (output t) = known
 
 -- line n says this, where these names are known
 pub record Says (q : ℕ) (known : List ℕ → Bool) (line : List ℕ) (n : ℕ) (s : Statement) : Type 0 where
-  pub form : Line
+  pub form : LineForm
   pub parsed : Parses line form
   pub good : bad_line q known line n form ≡ None
   pub meant : s ≡ statement line form
@@ -127,7 +127,7 @@ pub data LineFault (q : ℕ) (known : List ℕ → Bool) (line : List ℕ) (n : 
   depth_fault : (at : ℕ) → fault ≡ TooDeep n at
       → StopsAt line_language IsFine line at (λ ts. IsViable ts × (IsShallow ts → ⊥))
       → LineFault q known line n fault
-  name_fault : (form : Line) → Parses line form → bad_line q known line n form ≡ Some fault
+  name_fault : (form : LineForm) → Parses line form → bad_line q known line n form ≡ Some fault
       → LineFault q known line n fault
 
 -- the lines from line n on say the program, where these names are known

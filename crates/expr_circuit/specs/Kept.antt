@@ -2,9 +2,9 @@
 use Rattle.std.specs.Prelude.{◌≡◌, ℕ, ◌+◌, ◌<◌, ◌^◌, Bool, true, false, List, ◌∷◌, length, take, reverse, Option, Some, None, Result, Ok, Err}
 use Rattle.expr_circuit.specs.declared.fault.ExprFault.{ExprFault}
 use Rattle.expr_circuit.specs.declared.fault.ExprFault.TheVariants.{Memory}
-use Rattle.expr_circuit.specs.declared.node.Head.{Head}
+use Rattle.expr_circuit.specs.declared.kept_line.Head.{Head}
 use Rattle.expr_circuit.specs.declared.wire.Wire.{Wire}
-use Rattle.expr_circuit.specs.declared.wire.Step.{Step}
+use Rattle.expr_circuit.specs.declared.wire.DraftGate.{DraftGate}
 use Rattle.circuit_model.specs.Netlists.{IsCircuit}
 use Rattle.expr_circuit.specs.Circuits.{Draft, Built, number_of, netlist, is_large}
 use Rattle.expr_circuit.specs.Machine.{State}
@@ -19,7 +19,7 @@ Advances (Some next) goes_on new = (goes_on ≡ true) × (new ≡ next)
 -- a line as it is kept: what it begins with, and what the parser has
 abbrev pub read_kept : State → Option Head → Option Read
 read_kept s None = None
-read_kept s (Some head) = Some (record { head = head; nodes = reverse s.out })
+read_kept s (Some head) = Some (record { head = head; elements = reverse s.out })
 
 -- the fault that is wanted, unless memory ran out
 abbrev pub Fails : {B : Type 0} → ExprFault → Result B ExprFault → Type 0
@@ -36,7 +36,7 @@ abbrev pub Gives : {A : Type 0} → Result A ExprFault → Result A ExprFault �
 Gives result wanted = Shows (λ a. a) result wanted
 
 -- the wires of gate number g, behind `inputs` inputs, fit in 32 bits
-pub record IsNarrow (inputs g : ℕ) (s : Step) : Type 0 where
+pub record IsNarrow (inputs g : ℕ) (s : DraftGate) : Type 0 where
   pub first : number_of inputs s.first < 2 ^ 32
   pub second : number_of inputs s.second < 2 ^ 32
   pub output : inputs + g < 2 ^ 32
@@ -47,7 +47,7 @@ IsSound bits d = is_large (netlist bits d) ≡ false → IsCircuit (netlist bits
 
 -- what is kept of a draft: the gates and outputs within the limits, and how many there are
 pub record Kept : Type 0 where
-  pub steps : List Step
+  pub drafted : List DraftGate
   pub gates : ℕ
   pub inputs : ℕ
   pub outputs : List Wire
@@ -56,7 +56,7 @@ pub record Kept : Type 0 where
 abbrev pub kept : Draft → Kept
 kept d =
     record {
-      steps = take MOST_GATES d.gates;
+      drafted = take MOST_GATES d.gates;
       gates = length d.gates;
       inputs = d.inputs;
       outputs = take MOST_VALUES d.outputs;
@@ -82,7 +82,7 @@ Builds d b (Err fault) new = fault ≡ Memory
 -- the gates became those of the walk which is wanted, in which this wire stands before those that wait
 abbrev pub Wires : Draft → Result Wire ExprFault → Kept → List Wire → Result Walk ExprFault → Type 0
 Wires d (Ok wire) new wires wanted =
-    (gates : List Step)
+    (gates : List DraftGate)
     × (wanted ≡ Ok (record { gates = gates; wires = wire ∷ wires }))
     × (new ≡ kept (record d { gates = gates }))
 Wires d (Err fault) new wires wanted = Fails fault wanted

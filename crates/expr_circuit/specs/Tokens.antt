@@ -2,8 +2,8 @@
 use Rattle.std.specs.Prelude.{ℕ, Bool, ◌||◌, nat_eq, nat_le, List, length, if◌then◌else◌, codes}
 use Rattle.std.specs.Str.{bytes_eq}
 use Rattle.text_tokens.specs.RunTokens.{Language}
-use Rattle.expr_circuit.specs.declared.token.Token.{Token}
-use Rattle.expr_circuit.specs.declared.token.Token.TheVariants.{Input, Let, Output, Name, Number, Equals, Plus, Minus, Times, Open, Close, Unknown}
+use Rattle.expr_circuit.specs.declared.token.LineToken.{LineToken}
+use Rattle.expr_circuit.specs.declared.token.LineToken.TheVariants.{Input, Let, Output, Name, Number, Equals, Plus, Minus, Times, Open, Close, Unknown}
 use Rattle.expr_circuit.specs.declared.limits.TheConstants.{LONGEST_NAME}
 
 -- LF
@@ -15,7 +15,7 @@ abbrev pub is_blank : ℕ → Bool
 is_blank c = nat_eq c 32 || (nat_eq c 9 || nat_eq c 13)
 
 -- the token of a byte that is no blank, no letter and no digit: = + - * ( )
-abbrev pub symbol : ℕ → Token
+abbrev pub symbol : ℕ → LineToken
 symbol c =
     if nat_eq c 61 then Equals
     else if nat_eq c 43 then Plus
@@ -26,7 +26,7 @@ symbol c =
     else Unknown
 
 -- the token of a run that begins with a letter: a word of the language, or else a name where it has at most 16 bytes
-abbrev pub word_token : ℕ → List ℕ → Token
+abbrev pub word_token : ℕ → List ℕ → LineToken
 word_token at run =
     if bytes_eq run (codes "input") then Input
     else if bytes_eq run (codes "let") then Let
@@ -35,5 +35,5 @@ word_token at run =
     else Unknown
 
 -- the language of lines: names, numbers, `input`, `let`, `output` and = + - * ( ) between blanks
-abbrev pub line_language : Language Token
+abbrev pub line_language : Language LineToken
 line_language = record { is_blank = is_blank; word = word_token; number = λ at. Number at; symbol = symbol }

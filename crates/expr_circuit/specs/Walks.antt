@@ -6,17 +6,17 @@ use Rattle.circuit_model.specs.declared.gate.Operation.TheVariants.{Add, Sub, Ne
 use Rattle.text_tokens.specs.RunTokens.{Placed, tokens}
 use Rattle.expr_circuit.specs.declared.fault.ExprFault.{ExprFault}
 use Rattle.expr_circuit.specs.declared.fault.ExprFault.TheVariants.{NotUtf8, Syntax, UnknownName, BadConstant, TooDeep, TwiceNamed, TooLarge}
-use Rattle.expr_circuit.specs.declared.node.Node.{Node}
-use Rattle.expr_circuit.specs.declared.node.Node.TheVariants as nodes
-use Rattle.expr_circuit.specs.declared.node.Head.{Head}
-use Rattle.expr_circuit.specs.declared.node.Head.TheVariants as heads
-use Rattle.expr_circuit.specs.declared.parser.Mode.{Mode}
-use Rattle.expr_circuit.specs.declared.parser.Mode.TheVariants as modes
-use Rattle.expr_circuit.specs.declared.parser.Level.{Level}
+use Rattle.expr_circuit.specs.declared.kept_line.ExprElement.{ExprElement}
+use Rattle.expr_circuit.specs.declared.kept_line.ExprElement.TheVariants as elements
+use Rattle.expr_circuit.specs.declared.kept_line.Head.{Head}
+use Rattle.expr_circuit.specs.declared.kept_line.Head.TheVariants as heads
+use Rattle.expr_circuit.specs.declared.line_parser.LineMode.{LineMode}
+use Rattle.expr_circuit.specs.declared.line_parser.LineMode.TheVariants as modes
+use Rattle.expr_circuit.specs.declared.line_parser.Level.{Level}
 use Rattle.expr_circuit.specs.declared.wire.Wire.{Wire}
 use Rattle.expr_circuit.specs.declared.wire.Wire.TheVariants as wires
-use Rattle.expr_circuit.specs.declared.wire.Step.{Step}
-use Rattle.expr_circuit.specs.declared.token.Token.{Token}
+use Rattle.expr_circuit.specs.declared.wire.DraftGate.{DraftGate}
+use Rattle.expr_circuit.specs.declared.token.LineToken.{LineToken}
 use Rattle.expr_circuit.specs.Tokens.{line_language}
 use Rattle.expr_circuit.specs.Programs.{bind, name_at, number_at}
 use Rattle.expr_circuit.specs.Faults.{lines}
@@ -32,22 +32,22 @@ stepped n at None = Err (Syntax n at)
 stepped n at (Some s) = if nat_lt MOST_OPEN (depth s) then Err (TooDeep n at) else Ok s
 
 -- the state after tokens of line n, or the first fault
-abbrev pub scan : ℕ → State → List (Placed Token) → Result State ExprFault
+abbrev pub scan : ℕ → State → List (Placed LineToken) → Result State ExprFault
 scan n s [] = Ok s
 scan n s (t ∷ ts) = stepped n t.at (step s t.token) >>= (λ next. scan n next ts)
 
 -- a line that was read: what it begins with, and its expression in postfix order
 pub record Read : Type 0 where
   pub head : Head
-  pub nodes : List Node
+  pub elements : List ExprElement
 
-abbrev pub closed : Head → List Level → List Node → Option Read
-closed head [] out = Some (record { head = head; nodes = reverse out })
+abbrev pub closed : Head → List Level → List ExprElement → Option Read
+closed head [] out = Some (record { head = head; elements = reverse out })
 closed head (level ∷ frames) out = None
 
 -- the line, if it may end here
-abbrev pub finish_in : Mode → State → Option Read
-finish_in (modes.Ended at) s = Some (record { head = heads.Input at; nodes = reverse s.out })
+abbrev pub finish_in : LineMode → State → Option Read
+finish_in (modes.Ended at) s = Some (record { head = heads.Input at; elements = reverse s.out })
 finish_in (modes.Have head) s = closed head s.frames (with_sum s.level.sum s.out)
 finish_in _ s = None
 
@@ -59,7 +59,7 @@ abbrev pub or_end : ℕ → ℕ → Option Read → Result (Option Read) ExprFau
 or_end n at None = Err (Syntax n at)
 or_end n at (Some read) = Ok (Some read)
 
-abbrev pub is_first : Mode → Bool
+abbrev pub is_first : LineMode → Bool
 is_first modes.First = true
 is_first _ = false
 
@@ -72,7 +72,7 @@ parse_in n line = scan n start (tokens line_language line) >>= line_end n (lengt
 
 -- the gates so far, and the wires that wait, the last one first
 pub record Walk : Type 0 where
-  pub gates : List Step
+  pub gates : List DraftGate
   pub wires : List Wire
 
 abbrev pub top : List Wire → Wire
@@ -90,26 +90,26 @@ named_wire n at (Some w) = Ok w
 abbrev pub operator : Walk → Operation → Walk
 operator w o = put (add w.gates o (top (drop 1 w.wires)) (top w.wires) 0) (drop 2 w.wires)
 
--- what a node makes of the wires before it
-abbrev pub node_in : ℕ → (List ℕ → Option Wire) → ℕ → List ℕ → Node → Walk → Result Walk ExprFault
-node_in q of n line (nodes.Name at) w =
+-- what an element makes of the wires before it
+abbrev pub element_in : ℕ → (List ℕ → Option Wire) → ℕ → List ℕ → ExprElement → Walk → Result Walk ExprFault
+element_in q of n line (elements.Name at) w =
     named_wire n at (of (name_at line at)) >>= (λ wire. Ok (put (record { gates = w.gates; wire = wire }) w.wires))
-node_in q of n line (nodes.Number at) w =
+element_in q of n line (elements.Number at) w =
     if nat_lt (number_at line at) q then Ok (put (add w.gates Eq no_wire no_wire (number_at line at)) w.wires)
     else Err (BadConstant n at)
-node_in q of n line nodes.Negate w = Ok (put (add w.gates Neg (top w.wires) no_wire 0) (drop 1 w.wires))
-node_in q of n line nodes.Add w = Ok (operator w Add)
-node_in q of n line nodes.Subtract w = Ok (operator w Sub)
-node_in q of n line nodes.Multiply w = Ok (operator w Mul)
+element_in q of n line elements.Negate w = Ok (put (add w.gates Neg (top w.wires) no_wire 0) (drop 1 w.wires))
+element_in q of n line elements.Add w = Ok (operator w Add)
+element_in q of n line elements.Subtract w = Ok (operator w Sub)
+element_in q of n line elements.Multiply w = Ok (operator w Mul)
 
-abbrev pub nodes_in : ℕ → (List ℕ → Option Wire) → ℕ → List ℕ → List Node → Walk → Result Walk ExprFault
-nodes_in q of n line [] w = Ok w
-nodes_in q of n line (node ∷ rest) w = node_in q of n line node w >>= nodes_in q of n line rest
+abbrev pub elements_in : ℕ → (List ℕ → Option Wire) → ℕ → List ℕ → List ExprElement → Walk → Result Walk ExprFault
+elements_in q of n line [] w = Ok w
+elements_in q of n line (element ∷ rest) w = element_in q of n line element w >>= elements_in q of n line rest
 
 -- the gates and the wire of an expression
-unfoldable pub expression_in : ℕ → Draft → ℕ → List ℕ → List Node → Result Built ExprFault
-expression_in q d n line nodes =
-    nodes_in q d.of n line nodes (record { gates = d.gates; wires = [] })
+unfoldable pub expression_in : ℕ → Draft → ℕ → List ℕ → List ExprElement → Result Built ExprFault
+expression_in q d n line elements =
+    elements_in q d.of n line elements (record { gates = d.gates; wires = [] })
     >>= (λ w. Ok (record { gates = w.gates; wire = top w.wires }))
 
 -- with a name for a wire, which no line gave before
@@ -125,23 +125,23 @@ abbrev pub input_in : Draft → ℕ → List ℕ → Result Draft ExprFault
 input_in d n x = bind_in d n x (wires.Input d.inputs) >>= (λ e. Ok (record e { inputs = e.inputs + 1 }))
 
 -- with a name for an expression
-abbrev pub define_in : ℕ → Draft → ℕ → List ℕ → List ℕ → List Node → Result Draft ExprFault
-define_in q d n line x nodes = expression_in q d n line nodes >>= (λ b. bind_in (with_gates d b) n x b.wire)
+abbrev pub define_in : ℕ → Draft → ℕ → List ℕ → List ℕ → List ExprElement → Result Draft ExprFault
+define_in q d n line x elements = expression_in q d n line elements >>= (λ b. bind_in (with_gates d b) n x b.wire)
 
 -- with an output more
-abbrev pub output_in : ℕ → Draft → ℕ → List ℕ → List Node → Result Draft ExprFault
-output_in q d n line nodes =
-    expression_in q d n line nodes >>= (λ b. Ok (record d { gates = b.gates; outputs = d.outputs ++ (b.wire ∷ []) }))
+abbrev pub output_in : ℕ → Draft → ℕ → List ℕ → List ExprElement → Result Draft ExprFault
+output_in q d n line elements =
+    expression_in q d n line elements >>= (λ b. Ok (record d { gates = b.gates; outputs = d.outputs ++ (b.wire ∷ []) }))
 
 -- with one line more
-abbrev pub read_in : ℕ → Draft → ℕ → List ℕ → Head → List Node → Result Draft ExprFault
-read_in q d n line (heads.Input at) nodes = input_in d n (name_at line at)
-read_in q d n line (heads.Let at) nodes = define_in q d n line (name_at line at) nodes
-read_in q d n line heads.Output nodes = output_in q d n line nodes
+abbrev pub read_in : ℕ → Draft → ℕ → List ℕ → Head → List ExprElement → Result Draft ExprFault
+read_in q d n line (heads.Input at) elements = input_in d n (name_at line at)
+read_in q d n line (heads.Let at) elements = define_in q d n line (name_at line at) elements
+read_in q d n line heads.Output elements = output_in q d n line elements
 
 abbrev pub read_line : ℕ → Draft → ℕ → List ℕ → Option Read → Result Draft ExprFault
 read_line q d n line None = Ok d
-read_line q d n line (Some read) = read_in q d n line read.head read.nodes
+read_line q d n line (Some read) = read_in q d n line read.head read.elements
 
 -- with line n, or its first fault
 unfoldable pub line_in : ℕ → Draft → ℕ → List ℕ → Result Draft ExprFault

@@ -10,8 +10,8 @@ ghost use Rattle.expr_circuit.specs.Laws.{IsCircuitOf, IsCompiled, Refuses};
 
 use crate::draft::Draft;
 use crate::fault::ExprFault;
-use crate::line::Line;
-use crate::parser::Parser;
+use crate::line_parser::LineParser;
+use crate::program_line::ProgramLine;
 use crate::wire::Pending;
 use circuit_file::write;
 use circuit_model::Circuit;
@@ -50,13 +50,13 @@ fn read_lines(alloc: Global, bytes: &[u8], ring: Ring) -> Result<Circuit, ExprFa
     ensures { Gives result (compiled_in ring bytes.now) }
 {
     let mut draft = Draft::new(alloc);
-    let mut parser = Parser::new(alloc);
+    let mut parser = LineParser::new(alloc);
     let mut wires = Pending::new(alloc);
     let mut rest = bytes;
     let mut number = 1;
     while !rest.is_empty() {
         let (text, after) = cut_line(rest);
-        let line = Line { text, number, ring };
+        let line = ProgramLine { text, number, ring };
         match draft.line(&line, &mut parser, &mut wires) {
             Ok(()) => {}
             Err(fault) => return Err(fault),

@@ -7,11 +7,11 @@ ghost use Rattle.expr_circuit.specs.Keeps.{Keeps, Becomes};
 
 use crate::fault::ExprFault;
 use crate::gates::Gates;
-use crate::line::Line;
-use crate::names::Names;
-use crate::node::{Head, Node};
+use crate::kept_line::{ExprElement, Head};
+use crate::line_parser::LineParser;
+use crate::names::NamedWires;
 use crate::parse::parse_line;
-use crate::parser::Parser;
+use crate::program_line::ProgramLine;
 use crate::wire::{Pending, Wire};
 use circuit_model::Circuit;
 use mpc_ring::Ring;
@@ -21,7 +21,7 @@ use text_tokens::word_bytes;
 /// What the lines so far make: the wire of each name, and gates.
 #[derive(Drop)]
 pub struct Draft<'a> {
-    pub names: Names<'a>,
+    pub names: NamedWires<'a>,
     pub gates: Gates,
 }
 
@@ -30,7 +30,7 @@ impl<'a> Draft<'a> {
         ensures { Keeps result circuits.no_lines }
     {
         Draft {
-            names: Names::new(alloc),
+            names: NamedWires::new(alloc),
             gates: Gates::new(alloc),
         }
     }
@@ -51,15 +51,15 @@ impl<'a> Draft<'a> {
     /// Adds a name for an expression.
     fn define(
         &mut self,
-        line: &Line<'_>,
+        line: &ProgramLine<'_>,
         name: &'a [u8],
-        nodes: &[Node],
+        elements: &[ExprElement],
         wires: &mut Pending,
     ) -> Result<(), ExprFault>
         ensures { (d : circuits.Draft) → Keeps self.old d → Becomes result self.new
-            (define_in (2 ^ line.now.ring) d line.now.number line.now.text.now name.now nodes.now) }
+            (define_in (2 ^ line.now.ring) d line.now.number line.now.text.now name.now elements.now) }
     {
-        match self.gates.expression(&self.names, line, nodes, wires) {
+        match self.gates.expression(&self.names, line, elements, wires) {
             Ok(wire) => self.names.bind(line.number, name, wire),
             Err(fault) => Err(fault),
         }
@@ -68,14 +68,14 @@ impl<'a> Draft<'a> {
     /// Adds an output.
     fn output(
         &mut self,
-        line: &Line<'_>,
-        nodes: &[Node],
+        line: &ProgramLine<'_>,
+        elements: &[ExprElement],
         wires: &mut Pending,
     ) -> Result<(), ExprFault>
         ensures { (d : circuits.Draft) → Keeps self.old d → Becomes result self.new
-            (output_in (2 ^ line.now.ring) d line.now.number line.now.text.now nodes.now) }
+            (output_in (2 ^ line.now.ring) d line.now.number line.now.text.now elements.now) }
     {
-        match self.gates.expression(&self.names, line, nodes, wires) {
+        match self.gates.expression(&self.names, line, elements, wires) {
             Ok(wire) => self.gates.output(wire),
             Err(fault) => Err(fault),
         }
@@ -84,36 +84,36 @@ impl<'a> Draft<'a> {
     /// Adds what was read of a line.
     fn read(
         &mut self,
-        line: &Line<'a>,
+        line: &ProgramLine<'a>,
         head: Head,
-        nodes: &[Node],
+        elements: &[ExprElement],
         wires: &mut Pending,
     ) -> Result<(), ExprFault>
         ensures { (d : circuits.Draft) → Keeps self.old d → Becomes result self.new
-            (read_in (2 ^ line.now.ring) d line.now.number line.now.text.now head nodes.now) }
+            (read_in (2 ^ line.now.ring) d line.now.number line.now.text.now head elements.now) }
     {
         match head {
             Head::Input(at) => self.input(line.number, word_bytes(line.text, at)),
             Head::Let(at) => {
                 let name = word_bytes(line.text, at);
-                self.define(line, name, nodes, wires)
+                self.define(line, name, elements, wires)
             }
-            Head::Output => self.output(line, nodes, wires),
+            Head::Output => self.output(line, elements, wires),
         }
     }
 
     /// Adds a line.
     pub fn line(
         &mut self,
-        line: &Line<'a>,
-        parser: &mut Parser,
+        line: &ProgramLine<'a>,
+        parser: &mut LineParser,
         wires: &mut Pending,
     ) -> Result<(), ExprFault>
         ensures { (d : circuits.Draft) → Keeps self.old d → Becomes result self.new
             (line_in (2 ^ line.now.ring) d line.now.number line.now.text.now) }
     {
         match parse_line(parser, line) {
-            Ok(Some(head)) => self.read(line, head, parser.nodes(), wires),
+            Ok(Some(head)) => self.read(line, head, parser.elements(), wires),
             Ok(None) => Ok(()),
             Err(fault) => Err(fault),
         }

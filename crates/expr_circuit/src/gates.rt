@@ -2,16 +2,16 @@
 ghost use Rattle.std.specs.Prelude.{◌≡◌, ◌+◌, ◌^◌, ◌∷◌, ◌++◌, [], nat_lt, drop, OnOk, MatchResult, if◌then◌else◌};
 ghost use Rattle.expr_circuit.specs.declared.fault.ExprFault.TheVariants.{Memory};
 ghost use Rattle.expr_circuit.specs.Circuits.{Draft, add, no_wire, no_lines};
-ghost use Rattle.expr_circuit.specs.Walks.{top, node_in, expression_in, netlist_in};
+ghost use Rattle.expr_circuit.specs.Walks.{top, element_in, expression_in, netlist_in};
 ghost use Rattle.expr_circuit.specs.Named.{AreNames};
 ghost use Rattle.expr_circuit.specs.Kept.{kept, OrMemory, Builds, Wires, Moves, Expresses, Gives, IsSound};
 
 use crate::assembly::{assemble, push_copies};
 use crate::fault::ExprFault;
-use crate::line::Line;
-use crate::names::{Names, number_at};
-use crate::node::Node;
-use crate::wire::{Pending, Step, Wire};
+use crate::kept_line::ExprElement;
+use crate::names::{NamedWires, number_at};
+use crate::program_line::ProgramLine;
+use crate::wire::{DraftGate, Pending, Wire};
 use circuit_model::{Circuit, Operation};
 use job_limits::{MOST_GATES, MOST_VALUES};
 use mpc_ring::Ring;
@@ -22,7 +22,7 @@ use text_tokens::word_bytes;
 /// The gates and the wires of outputs. Those that are past a limit are counted, and not kept.
 #[derive(Drop)]
 pub struct Gates {
-    steps: Vec<Step>,
+    drafted: Vec<DraftGate>,
     gates: u64,
     inputs: u64,
     outputs: Vec<Wire>,
@@ -35,7 +35,7 @@ impl Model for Gates {
     ghost Value = { Kept };
 
     ghost view = { λ g. record {
-      steps = g.steps.items;
+      drafted = g.drafted.items;
       gates = g.gates;
       inputs = g.inputs;
       outputs = g.outputs.items;
@@ -58,7 +58,7 @@ impl Gates {
         ensures { result ≡ kept no_lines }
     {
         Gates {
-            steps: Vec::new(alloc),
+            drafted: Vec::new(alloc),
             gates: 0,
             inputs: 0,
             outputs: Vec::new(alloc),
@@ -82,24 +82,24 @@ impl Gates {
     }
 
     /// Keeps a gate, unless there are too many.
-    fn keep(&mut self, step: Step) -> Result<(), AllocError>
+    fn keep(&mut self, gate: DraftGate) -> Result<(), AllocError>
         ensures { OnOk result (self.new ≡ record self.old {
-          steps = if nat_lt self.old.gates MOST_GATES then self.old.steps ++ (step ∷ []) else self.old.steps;
+          drafted = if nat_lt self.old.gates MOST_GATES then self.old.drafted ++ (gate ∷ []) else self.old.drafted;
         }) }
     {
         if self.gates < MOST_GATES {
-            self.steps.push(step)?;
+            self.drafted.push(gate)?;
         }
         Ok(())
     }
 
     /// Adds a gate, and tells its wire.
-    fn gate(&mut self, step: Step) -> Result<Wire, ExprFault>
+    fn gate(&mut self, gate: DraftGate) -> Result<Wire, ExprFault>
         ensures { (d : Draft) → self.old ≡ kept d
-            → Builds d (add d.gates step.operation step.first step.second step.constant) result self.new }
+            → Builds d (add d.gates gate.operation gate.first gate.second gate.constant) result self.new }
     {
         let wire = Wire::Gate(self.gates);
-        self.keep(step)?;
+        self.keep(gate)?;
         self.gates = next(self.gates)?;
         Ok(wire)
     }
@@ -112,7 +112,7 @@ impl Gates {
     {
         let right = wires.pop();
         let left = wires.pop();
-        self.gate(Step {
+        self.gate(DraftGate {
             operation,
             first: left,
             second: right,
@@ -125,7 +125,7 @@ impl Gates {
         ensures { (d : Draft) → self.old ≡ kept d
             → Builds d (add d.gates Operation.Eq no_wire no_wire constant) result self.new }
     {
-        self.gate(Step {
+        self.gate(DraftGate {
             operation: Operation::Eq,
             first: Wire::Input(0),
             second: Wire::Input(0),
@@ -140,7 +140,7 @@ impl Gates {
         ensures rest { wires.new ≡ drop 1 wires.old }
     {
         let first = wires.pop();
-        self.gate(Step {
+        self.gate(DraftGate {
             operation: Operation::Neg,
             first,
             second: Wire::Input(0),
@@ -148,70 +148,70 @@ impl Gates {
         })
     }
 
-    /// The wire of a node, whose operands are the last of these wires.
+    /// The wire of an element, whose operands are the last of these wires.
     fn wire(
         &mut self,
-        names: &Names<'_>,
-        line: &Line<'_>,
-        node: Node,
+        names: &NamedWires<'_>,
+        line: &ProgramLine<'_>,
+        element: ExprElement,
         wires: &mut Pending,
     ) -> Result<Wire, ExprFault>
         ensures { (d : Draft) → AreNames names.now d.of → self.old ≡ kept d → Wires d result self.new wires.new
-            (node_in (2 ^ line.now.ring) d.of line.now.number line.now.text.now node
+            (element_in (2 ^ line.now.ring) d.of line.now.number line.now.text.now element
             (record { gates = d.gates; wires = wires.old })) }
     {
-        match node {
-            Node::Name(at) => match names.wire(word_bytes(line.text, at)) {
+        match element {
+            ExprElement::Name(at) => match names.wire(word_bytes(line.text, at)) {
                 Some(wire) => Ok(wire),
                 None => Err(ExprFault::UnknownName {
                     line: line.number,
                     at: at as u64,
                 }),
             },
-            Node::Number(at) => match number_at(line.text, at, line.ring) {
+            ExprElement::Number(at) => match number_at(line.text, at, line.ring) {
                 Some(constant) => self.constant(constant),
                 None => Err(ExprFault::BadConstant {
                     line: line.number,
                     at: at as u64,
                 }),
             },
-            Node::Negate => self.negate(wires),
-            Node::Add => self.operator(Operation::Add, wires),
-            Node::Subtract => self.operator(Operation::Sub, wires),
-            Node::Multiply => self.operator(Operation::Mul, wires),
+            ExprElement::Negate => self.negate(wires),
+            ExprElement::Add => self.operator(Operation::Add, wires),
+            ExprElement::Subtract => self.operator(Operation::Sub, wires),
+            ExprElement::Multiply => self.operator(Operation::Mul, wires),
         }
     }
 
-    /// Puts the wire of a node in the place of those of its operands.
-    fn node(
+    /// Puts the wire of an element in the place of those of its operands.
+    fn element(
         &mut self,
-        names: &Names<'_>,
-        line: &Line<'_>,
-        node: Node,
+        names: &NamedWires<'_>,
+        line: &ProgramLine<'_>,
+        element: ExprElement,
         wires: &mut Pending,
     ) -> Result<(), ExprFault>
         ensures { (d : Draft) → AreNames names.now d.of → self.old ≡ kept d → Moves d result self.new wires.new
-            (node_in (2 ^ line.now.ring) d.of line.now.number line.now.text.now node
+            (element_in (2 ^ line.now.ring) d.of line.now.number line.now.text.now element
             (record { gates = d.gates; wires = wires.old })) }
     {
-        let wire = self.wire(names, line, node, wires)?;
+        let wire = self.wire(names, line, element, wires)?;
         Ok(wires.push(wire)?)
     }
 
     /// The wire of an expression.
     pub fn expression(
         &mut self,
-        names: &Names<'_>,
-        line: &Line<'_>,
-        nodes: &[Node],
+        names: &NamedWires<'_>,
+        line: &ProgramLine<'_>,
+        elements: &[ExprElement],
         wires: &mut Pending,
     ) -> Result<Wire, ExprFault>
         ensures { (d : Draft) → AreNames names.now d.of → self.old ≡ kept d → Expresses d result self.new
-            (expression_in (2 ^ line.now.ring) d line.now.number line.now.text.now nodes.now) }
+            (expression_in (2 ^ line.now.ring) d line.now.number line.now.text.now elements.now) }
     {
         wires.clear();
-        for node in nodes {
-            match self.node(names, line, *node, wires) {
+        for element in elements {
+            match self.element(names, line, *element, wires) {
                 Ok(()) => {}
                 Err(fault) => return Err(fault),
             }
@@ -259,7 +259,7 @@ impl Gates {
             return Err(ExprFault::TooLarge);
         }
         let outputs = self.outputs.len();
-        push_copies(&mut self.steps, &self.outputs)?;
-        Ok(assemble(alloc, ring, inputs, &self.steps, outputs)?)
+        push_copies(&mut self.drafted, &self.outputs)?;
+        Ok(assemble(alloc, ring, inputs, &self.drafted, outputs)?)
     }
 }

@@ -14,13 +14,13 @@ mod compiler;
 mod draft;
 mod fault;
 mod gates;
+mod kept_line;
 mod laws;
 mod limits;
-mod line;
+mod line_parser;
 mod names;
-mod node;
 mod parse;
-mod parser;
+mod program_line;
 mod token;
 mod wire;
 

@@ -3,20 +3,23 @@ ghost use Rattle.expr_circuit.specs.Kept.{Shows, read_kept};
 ghost use Rattle.expr_circuit.specs.Walks.{parse_in};
 
 use crate::fault::ExprFault;
+use crate::kept_line::Head;
 use crate::limits::MOST_OPEN;
-use crate::line::Line;
-use crate::node::Head;
-use crate::parser::Parser;
-use crate::token::Token;
+use crate::line_parser::LineParser;
+use crate::program_line::ProgramLine;
+use crate::token::LineToken;
 use text_tokens::next_token;
 
 /// The line, none where it has no tokens, or the fault of its first token that has one.
-pub(crate) fn parse_line(parser: &mut Parser, line: &Line<'_>) -> Result<Option<Head>, ExprFault>
+pub(crate) fn parse_line(
+    parser: &mut LineParser,
+    line: &ProgramLine<'_>,
+) -> Result<Option<Head>, ExprFault>
     ensures { Shows (read_kept parser.new) result (parse_in line.now.number line.now.text.now) }
 {
     parser.reset();
     let mut from = 0;
-    while let Some(cut) = next_token::<Token>(line.text, from) {
+    while let Some(cut) = next_token::<LineToken>(line.text, from) {
         let at = cut.at as u64;
         if !parser.advance(cut.token)? {
             return Err(ExprFault::Syntax {

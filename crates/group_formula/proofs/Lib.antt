@@ -4,9 +4,9 @@ pub mod MachineSteps
 pub mod MachineRuns
 pub mod ParserStates
 pub mod FaultlessTokens
-pub mod NodeValues
-pub mod FirstNodeFault
+pub mod ElementValues
+pub mod FirstElementFault
 pub mod Numbers
-pub mod ResolvedNodes
+pub mod ResolvedElements
 pub mod Meaning
 pub mod OneAnswer

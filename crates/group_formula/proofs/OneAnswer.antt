@@ -2,13 +2,13 @@
 use Rattle.std.proofs.Common.{◌≡◌, ℕ, ◌≤◌, ◌<◌, ◌⊎◌, inl, inr, Bool, true, false, List, [], ◌∷◌, ◌++◌, length, Option, Some, None, refl, sym, ◌∙◌, ap, ap₂, subst, append_assoc, append-nil, nat_le, arith}
 use Rattle.std.specs.Prelude.{count_by}
 use Rattle.std.proofs.lemmas.Bool.{leb-true, leb-false}
-use Rattle.group_formula.specs.declared.token.Token.{Token}
+use Rattle.group_formula.specs.declared.token.FormulaToken.{FormulaToken}
 use Rattle.group_formula.specs.declared.fault.FormulaFault.{FormulaFault}
 use Rattle.group_formula.specs.declared.fault.FormulaFault.TheVariants.{Syntax, UnknownName, BadCount, TooDeep, TooManyNodes, Memory}
 use Rattle.text_tokens.specs.RunTokens.{Placed, bare, tokens}
 use Rattle.text_tokens.specs.FirstFaults.{AreFine}
 use Rattle.text_tokens.proofs.FirstFaults.{bare_last, fine_more, stop, no_stop, same_place, both_stop}
-use Rattle.group_formula.specs.Tokens.{formula_language, is_node}
+use Rattle.group_formula.specs.Tokens.{formula_language, is_element}
 use Rattle.group_formula.specs.Grammar.{Expr, Term, shape, IsViable}
 use Rattle.group_formula.specs.Grammar.Expr.{one_term, or_term}
 use Rattle.group_formula.specs.Machine.{Level, Pending, MachineState, step, join_expr}
@@ -26,7 +26,7 @@ use Rattle.group_formula.proofs.FaultlessTokens.{frames_in, opened, run_last, fi
 abbrev pub Passes : List ℕ → Type 0
 Passes text = ((e : Expr) × Parses text e) ⊎ ((fault : FormulaFault) × IsFirstFault text fault)
 
-unended : (text : List ℕ) (done : List (Placed Token)) (s : MachineState) → tokens formula_language text ≡ done → run (bare done) ≡ Some s → AreFine IsFine (bare done) → ((e : Expr) → have_expr e [] ≡ s → ⊥) → Passes text
+unended : (text : List ℕ) (done : List (Placed FormulaToken)) (s : MachineState) → tokens formula_language text ≡ done → run (bare done) ≡ Some s → AreFine IsFine (bare done) → ((e : Expr) → have_expr e [] ≡ s → ⊥) → Passes text
 unended text done s cut ran fine bars = inr (
   Syntax (length text),
   inr (record {
@@ -55,7 +55,7 @@ not_inside : (e : Expr) (ors : Option Expr) (t : Term) (f : Pending) (fs : List 
 not_inside (one_term u) ors t f fs e = cc
 not_inside (or_term d u) ors t f fs e = cc
 
-ended : (text : List ℕ) (done : List (Placed Token)) (s : MachineState) → tokens formula_language text ≡ done → run (bare done) ≡ Some s → AreFine IsFine (bare done) → Passes text
+ended : (text : List ℕ) (done : List (Placed FormulaToken)) (s : MachineState) → tokens formula_language text ≡ done → run (bare done) ≡ Some s → AreFine IsFine (bare done) → Passes text
 ended text done (want l fs) cut ran fine = unended text done (want l fs) cut ran fine (λ e h. not_want e l fs h)
 ended text done (want_of n l fs) cut ran fine = unended text done (want_of n l fs) cut ran fine (λ e h. not_want_of e n l fs h)
 ended text done (want_open n l fs) cut ran fine = unended text done (want_open n l fs) cut ran fine (λ e h. not_want_open e n l fs h)
@@ -65,25 +65,25 @@ ended text done (have ors t []) cut ran fine = inl (
   record { spelled = sym (formula_read (bare done) ors t ran) ∙ ap bare (sym cut); fine = subst (λ ts. AreFine IsFine (bare ts)) (sym cut) fine },
 )
 
-decide_small : (text : List ℕ) (done rest : List (Placed Token)) (t : Placed Token) (next : MachineState) (b : Bool) → tokens formula_language text ≡ done ++ (t ∷ rest) → AreFine IsFine (bare done) → run (bare done ++ (t.token ∷ [])) ≡ Some next
-    → IsShallow (bare done ++ (t.token ∷ [])) → nat_le (count_by is_node (bare done ++ (t.token ∷ []))) 256 ≡ b
+decide_small : (text : List ℕ) (done rest : List (Placed FormulaToken)) (t : Placed FormulaToken) (next : MachineState) (b : Bool) → tokens formula_language text ≡ done ++ (t ∷ rest) → AreFine IsFine (bare done) → run (bare done ++ (t.token ∷ [])) ≡ Some next
+    → IsShallow (bare done ++ (t.token ∷ [])) → nat_le (count_by is_element (bare done ++ (t.token ∷ []))) 256 ≡ b
     → (AreFine IsFine (bare (done ++ (t ∷ []))) → Passes text) → Passes text
 decide_small text done rest t next true cut fine ran shallow e goes =
     goes (subst (AreFine IsFine) (sym (bare_last done t)) (fine_more IsFine (bare done) t.token fine (record { viable = run_viable (bare done ++ (t.token ∷ [])) next ran; shallow = shallow; small = leb-true _ 256 e })))
 decide_small text done rest t next false cut fine ran shallow e goes =
-    let many : 256 < count_by is_node (bare done ++ (t.token ∷ [])) = leb-false _ 256 e in
+    let many : 256 < count_by is_element (bare done ++ (t.token ∷ [])) = leb-false _ 256 e in
     inr (TooManyNodes t.at, stop formula_language IsFine text done rest t (λ ts. IsViable ts × IsShallow ts × (IsSmall ts → ⊥)) cut fine (run_viable (bare done ++ (t.token ∷ [])) next ran, shallow, λ h. omega (arith, h, many)))
 
-decide_shallow : (text : List ℕ) (done rest : List (Placed Token)) (t : Placed Token) (next : MachineState) (b : Bool) → tokens formula_language text ≡ done ++ (t ∷ rest) → AreFine IsFine (bare done) → run (bare done ++ (t.token ∷ [])) ≡ Some next
+decide_shallow : (text : List ℕ) (done rest : List (Placed FormulaToken)) (t : Placed FormulaToken) (next : MachineState) (b : Bool) → tokens formula_language text ≡ done ++ (t ∷ rest) → AreFine IsFine (bare done) → run (bare done ++ (t.token ∷ [])) ≡ Some next
     → nat_le (length (frames_in next)) 32 ≡ b → (AreFine IsFine (bare (done ++ (t ∷ []))) → Passes text) → Passes text
 decide_shallow text done rest t next true cut fine ran e goes =
     let few : length (frames_in next) ≤ 32 = leb-true (length (frames_in next)) 32 e in
-    decide_small text done rest t next (nat_le (count_by is_node (bare done ++ (t.token ∷ []))) 256) cut fine ran (omega (arith, opened (bare done ++ (t.token ∷ [])) next ran, few)) refl goes
+    decide_small text done rest t next (nat_le (count_by is_element (bare done ++ (t.token ∷ []))) 256) cut fine ran (omega (arith, opened (bare done ++ (t.token ∷ [])) next ran, few)) refl goes
 decide_shallow text done rest t next false cut fine ran e goes =
     let many : 32 < length (frames_in next) = leb-false (length (frames_in next)) 32 e in
     inr (TooDeep t.at, stop formula_language IsFine text done rest t (λ ts. IsViable ts × (IsShallow ts → ⊥)) cut fine (run_viable (bare done ++ (t.token ∷ [])) next ran, λ h. omega (arith, h, opened (bare done ++ (t.token ∷ [])) next ran, many)))
 
-decide_step : (text : List ℕ) (done rest : List (Placed Token)) (t : Placed Token) (s : MachineState) (next : Option MachineState) → tokens formula_language text ≡ done ++ (t ∷ rest) → AreFine IsFine (bare done) → run (bare done) ≡ Some s
+decide_step : (text : List ℕ) (done rest : List (Placed FormulaToken)) (t : Placed FormulaToken) (s : MachineState) (next : Option MachineState) → tokens formula_language text ≡ done ++ (t ∷ rest) → AreFine IsFine (bare done) → run (bare done) ≡ Some s
     → step s t.token ≡ next → ((m : MachineState) → run (bare (done ++ (t ∷ []))) ≡ Some m → AreFine IsFine (bare (done ++ (t ∷ []))) → Passes text) → Passes text
 decide_step text done rest t s None cut fine ran e goes =
     inr (Syntax t.at, inl (stop formula_language IsFine text done rest t (λ ts. IsViable ts → ⊥) cut fine (stuck_no (bare done ++ (t.token ∷ [])) (run_last (bare done) s t.token ran ∙ e))))
@@ -91,7 +91,7 @@ decide_step text done rest t s (Some next) cut fine ran e goes =
     let after : run (bare done ++ (t.token ∷ [])) ≡ Some next = run_last (bare done) s t.token ran ∙ e in
     decide_shallow text done rest t next (nat_le (length (frames_in next)) 32) cut fine after refl (goes next (ap run (bare_last done t) ∙ after))
 
-decide : (text : List ℕ) (done rest : List (Placed Token)) (s : MachineState) → tokens formula_language text ≡ done ++ rest → AreFine IsFine (bare done) → run (bare done) ≡ Some s → Passes text
+decide : (text : List ℕ) (done rest : List (Placed FormulaToken)) (s : MachineState) → tokens formula_language text ≡ done ++ rest → AreFine IsFine (bare done) → run (bare done) ≡ Some s → Passes text
 decide text done [] s cut fine ran = ended text done s (cut ∙ append-nil done) ran fine
 decide text done (t ∷ rest) s cut fine ran =
     decide_step text done rest t s (step s t.token) cut fine ran refl
@@ -113,22 +113,22 @@ some_answer text names = elim (passes text) [
   | inr f ↦ inr (f.0, inl f.1)
 ]
 
-abbrev pub Unviable : List Token → Type 0
+abbrev pub Unviable : List FormulaToken → Type 0
 Unviable ts = IsViable ts → ⊥
 
-abbrev pub Deep : List Token → Type 0
+abbrev pub Deep : List FormulaToken → Type 0
 Deep ts = IsViable ts × (IsShallow ts → ⊥)
 
-abbrev pub Many : List Token → Type 0
+abbrev pub Many : List FormulaToken → Type 0
 Many ts = IsViable ts × IsShallow ts × (IsSmall ts → ⊥)
 
-unviable_no : (ts : List Token) → Unviable ts → IsFine ts → ⊥
+unviable_no : (ts : List FormulaToken) → Unviable ts → IsFine ts → ⊥
 unviable_no ts h f = h f.viable
 
-deep_no : (ts : List Token) → Deep ts → IsFine ts → ⊥
+deep_no : (ts : List FormulaToken) → Deep ts → IsFine ts → ⊥
 deep_no ts h f = h.1 f.shallow
 
-many_no : (ts : List Token) → Many ts → IsFine ts → ⊥
+many_no : (ts : List FormulaToken) → Many ts → IsFine ts → ⊥
 many_no ts h f = h.2 f.small
 
 one_first : (text : List ℕ) (a b : FormulaFault) → IsFirstFault text a → IsFirstFault text b → a ≡ b

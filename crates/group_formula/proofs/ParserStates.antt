@@ -2,14 +2,14 @@
 use Rattle.std.proofs.Common.{◌≡◌, ℕ, ◌+◌, ◌≤◌, ◌<◌, inl, inr, Bool, true, false, List, [], ◌∷◌, ◌++◌, length, Option, Some, None, Result, Ok, Err, refl, sym, ◌∙◌, ap, ap₂, subst, append_assoc, append-nil, length-append, arith}
 use Rattle.std.specs.Prelude.{if◌then◌else◌, IfOk}
 use Rattle.std.specs.declared.alloc.AllocError.{AllocError}
-use Rattle.group_formula.specs.declared.token.Token.TheVariants as tokens
-use Rattle.group_formula.specs.declared.node.Node.{Node}
-use Rattle.group_formula.specs.declared.node.Node.TheVariants.{And, Or, AtLeast}
-use Rattle.group_formula.specs.declared.parser.Mode.{Mode}
-use Rattle.group_formula.specs.declared.parser.Mode.TheVariants as modes
-use Rattle.group_formula.specs.declared.parser.Bracket.{Bracket}
-use Rattle.group_formula.specs.declared.parser.Bracket.TheVariants as brackets
-use Rattle.group_formula.specs.declared.parser.Frame.{Frame}
+use Rattle.group_formula.specs.declared.token.FormulaToken.TheVariants as tokens
+use Rattle.group_formula.specs.declared.element.FormulaElement.{FormulaElement}
+use Rattle.group_formula.specs.declared.element.FormulaElement.TheVariants.{And, Or, AtLeast}
+use Rattle.group_formula.specs.declared.formula_parser.FormulaMode.{FormulaMode}
+use Rattle.group_formula.specs.declared.formula_parser.FormulaMode.TheVariants as modes
+use Rattle.group_formula.specs.declared.formula_parser.Bracket.{Bracket}
+use Rattle.group_formula.specs.declared.formula_parser.Bracket.TheVariants as brackets
+use Rattle.group_formula.specs.declared.formula_parser.Frame.{Frame}
 use Rattle.group_formula.specs.Trees.{Tree, Trees, tree_count}
 use Rattle.group_formula.specs.Postfix.{postfix, postfix_all}
 use Rattle.group_formula.specs.Trees.Tree.{leaf, both, either, at_least}
@@ -20,7 +20,7 @@ use Rattle.group_formula.specs.Machine.{Pending, MachineState, step, join_expr, 
 use Rattle.group_formula.specs.Machine.Level.{level}
 use Rattle.group_formula.specs.Machine.Pending.{plain, listed}
 use Rattle.group_formula.specs.Machine.MachineState.{want, want_of, want_open, have}
-use Rattle.group_formula.specs.Kept.{Kept, there, nodes_ors, nodes_ands, nodes_done, number_done, nodes_level, nodes_pending, nodes_all, frame_of, frames_of, kept_of, with_factor, joined_out, closed, Closes, separated, Separates, Advances, IsKept}
+use Rattle.group_formula.specs.Kept.{Kept, there, elements_ors, elements_ands, elements_done, number_done, elements_level, elements_pending, elements_all, frame_of, frames_of, kept_of, with_factor, joined_out, closed, Closes, separated, Separates, Advances, IsKept}
 
 pub last_same : {A : Type 0} (xs ys : List A) (x y : A) → xs ++ (x ∷ []) ≡ ys ++ (y ∷ []) → (xs ≡ ys) × (x ≡ y)
 last_same [] [] x y e = (refl, cc)
@@ -34,20 +34,20 @@ pub no_last : {A : Type 0} (xs : List A) (x : A) → xs ++ (x ∷ []) ≡ [] →
 no_last [] x e = cc
 no_last (a ∷ xs) x e = cc
 
-pub nodes_joined_parts : (done : Option Parts) (e : Expr) → postfix_all (shape_parts (join_parts done e)) ≡ nodes_done done ++ postfix (shape e)
-nodes_joined_parts None e = refl
-nodes_joined_parts (Some ps) e = refl
+pub elements_joined_parts : (done : Option Parts) (e : Expr) → postfix_all (shape_parts (join_parts done e)) ≡ elements_done done ++ postfix (shape e)
+elements_joined_parts None e = refl
+elements_joined_parts (Some ps) e = refl
 
 pub count_joined : (done : Option Parts) (e : Expr) → tree_count (shape_parts (join_parts done e)) ≡ number_done done + 1
 count_joined None e = refl
 count_joined (Some ps) e = refl
 
-pub joined_code : (ors : Option Expr) (t : Term) (fs : List Pending) → joined_out (kept_of (have ors t fs)) ≡ nodes_all fs ++ postfix (shape (join_expr ors t))
+pub joined_code : (ors : Option Expr) (t : Term) (fs : List Pending) → joined_out (kept_of (have ors t fs)) ≡ elements_all fs ++ postfix (shape (join_expr ors t))
 joined_code None t fs = refl
 joined_code (Some e) t fs = simp append_assoc
 
 -- a factor comes
-pub factor_code : (m : Mode) (os : Option Expr) (ands : Option Term) (fs : List Pending) (f : Factor) (out : List Node) → out ≡ (nodes_all fs ++ (nodes_ors os ++ nodes_ands ands)) ++ postfix (shape_factor f)
+pub factor_code : (m : FormulaMode) (os : Option Expr) (ands : Option Term) (fs : List Pending) (f : Factor) (out : List FormulaElement) → out ≡ (elements_all fs ++ (elements_ors os ++ elements_ands ands)) ++ postfix (shape_factor f)
     → with_factor (record { mode = m; or_waits = there os; and_waits = there ands; frames = frames_of fs; out = out }) ≡ kept_of (take_factor (level os ands) f fs)
 factor_code m os None fs f out e = rw e (ap (λ out. record { mode = modes.Have; or_waits = there os; and_waits = false; frames = frames_of fs; out = out }) (simp (append_assoc, append-nil)))
 factor_code m os (Some t) fs f out e = rw e (ap (λ out. record { mode = modes.Have; or_waits = there os; and_waits = false; frames = frames_of fs; out = out }) (simp append_assoc))
@@ -65,7 +65,7 @@ closes_have ors t (listed n (level os ands) done ∷ fs) true new (rest, f, e, i
     is ∙ ap₂ (closed (kept_of (have ors t (listed n (level os ands) done ∷ fs)))) same.0 same.1
     ∙ factor_code modes.Have os ands fs (counted n (join_parts done (join_expr ors t))) _
     (ap (λ out. out ++ (AtLeast n (number_done done + 1) ∷ [])) (joined_code ors t (listed n (level os ands) done ∷ fs))
-    ∙ simp (nodes_joined_parts, count_joined, append_assoc))
+    ∙ simp (elements_joined_parts, count_joined, append_assoc))
 
 pub separates_have : (ors : Option Expr) (t : Term) (fs : List Pending) (done : Bool) (new : Kept) → Separates (kept_of (have ors t fs)) done new → Advances (separate (join_expr ors t) fs) (Ok done) new
 separates_have ors t [] false new h = tt
@@ -87,7 +87,7 @@ separates_have ors t (listed n (level os ands) done ∷ fs) true new (rest, f, m
     ∙ ap₂ (separated (kept_of (have ors t (listed n (level os ands) done ∷ fs))) (frames_of fs) (frame_of (listed n (level os ands) done))) number read
     ∙ ap₂ (λ parts out. record { mode = modes.Want; or_waits = false; and_waits = false; frames = frames_of fs ++ (record { bracket = brackets.List n parts; or_waits = there os; and_waits = there ands } ∷ []); out = out })
     (sym (count_joined done (join_expr ors t)))
-    (joined_code ors t (listed n (level os ands) done ∷ fs) ∙ simp (nodes_joined_parts, append_assoc, append-nil))
+    (joined_code ors t (listed n (level os ands) done ∷ fs) ∙ simp (elements_joined_parts, append_assoc, append-nil))
 
 mutual
   some_tree : (t : Tree) → 0 < length (postfix t)
@@ -100,7 +100,7 @@ count_le : (ts : Trees) → tree_count ts ≤ length (postfix_all ts)
 count_le (one_tree t) = some_tree t
 count_le (more_trees ts t) = omega (arith, count_le ts, some_tree t, length-append (postfix_all ts) (postfix t))
 
-done_le : (done : Option Parts) → number_done done ≤ length (nodes_done done)
+done_le : (done : Option Parts) → number_done done ≤ length (elements_done done)
 done_le None = omega arith
 done_le (Some ps) = count_le (shape_parts ps)
 
@@ -109,21 +109,21 @@ abbrev pub parts_of : Bracket → ℕ
 parts_of brackets.Group = 0
 parts_of (brackets.List n parts) = parts
 
-pending_le : (p : Pending) → parts_of (frame_of p).bracket ≤ length (nodes_pending p)
+pending_le : (p : Pending) → parts_of (frame_of p).bracket ≤ length (elements_pending p)
 pending_le (plain (level os ands)) = omega arith
-pending_le (listed n (level os ands) done) = omega (arith, done_le done, length-append (nodes_level (level os ands)) (nodes_done done))
+pending_le (listed n (level os ands) done) = omega (arith, done_le done, length-append (elements_level (level os ands)) (elements_done done))
 
-frames_le : (fs : List Pending) (rest : List Frame) (f : Frame) → frames_of fs ≡ rest ++ (f ∷ []) → parts_of f.bracket ≤ length (nodes_all fs)
+frames_le : (fs : List Pending) (rest : List Frame) (f : Frame) → frames_of fs ≡ rest ++ (f ∷ []) → parts_of f.bracket ≤ length (elements_all fs)
 frames_le [] rest f e = absurd (no_last rest f (sym e))
 frames_le (p ∷ fs) rest f e =
     let same : (frames_of fs ≡ rest) × (frame_of p ≡ f) = last_same _ _ _ _ e in
-    omega (arith, pending_le p, ap (λ (g : Frame). parts_of g.bracket) same.1, length-append (nodes_all fs) (nodes_pending p))
+    omega (arith, pending_le p, ap (λ (g : Frame). parts_of g.bracket) same.1, length-append (elements_all fs) (elements_pending p))
 
 pub kept_le : (s : MachineState) (rest : List Frame) (f : Frame) → (kept_of s).frames ≡ rest ++ (f ∷ []) → parts_of f.bracket ≤ length (kept_of s).out
-kept_le (want (level os ands) fs) rest f e = omega (arith, frames_le fs rest f e, length-append (nodes_all fs) (nodes_ors os ++ nodes_ands ands))
-kept_le (want_of n (level os ands) fs) rest f e = omega (arith, frames_le fs rest f e, length-append (nodes_all fs) (nodes_ors os ++ nodes_ands ands))
-kept_le (want_open n (level os ands) fs) rest f e = omega (arith, frames_le fs rest f e, length-append (nodes_all fs) (nodes_ors os ++ nodes_ands ands))
-kept_le (have ors t fs) rest f e = omega (arith, frames_le fs rest f e, length-append (nodes_all fs) (nodes_ors ors ++ postfix (shape_term t)))
+kept_le (want (level os ands) fs) rest f e = omega (arith, frames_le fs rest f e, length-append (elements_all fs) (elements_ors os ++ elements_ands ands))
+kept_le (want_of n (level os ands) fs) rest f e = omega (arith, frames_le fs rest f e, length-append (elements_all fs) (elements_ors os ++ elements_ands ands))
+kept_le (want_open n (level os ands) fs) rest f e = omega (arith, frames_le fs rest f e, length-append (elements_all fs) (elements_ors os ++ elements_ands ands))
+kept_le (have ors t fs) rest f e = omega (arith, frames_le fs rest f e, length-append (elements_all fs) (elements_ors ors ++ postfix (shape_term t)))
 
 pub keeps_le : (c : Kept) (rest : List Frame) (f : Frame) → IsKept c → c.frames ≡ rest ++ (f ∷ []) → parts_of f.bracket ≤ length c.out
 keeps_le c rest f (s, is) e = omega (arith, kept_le s rest f (sym (ap (λ d. d.frames) is) ∙ e), ap (λ d. length d.out) is)
@@ -141,11 +141,11 @@ separates_any (want_of n (level os ands) fs) old done new is m h = let bad : mod
 separates_any (want_open n (level os ands) fs) old done new is m h = let bad : modes.WantOpen n ≡ modes.Have = sym (ap (λ d. d.mode) is) ∙ m in absurd cc
 separates_any (have ors t fs) old done new is m h = separates_have ors t fs done new (subst (λ (c : Kept). Separates c done new) is h)
 
-joined_longer : (b : Bool) (out : List Node) → length out ≤ length (if b then out ++ (Or ∷ []) else out)
+joined_longer : (b : Bool) (out : List FormulaElement) → length out ≤ length (if b then out ++ (Or ∷ []) else out)
 joined_longer true out = omega (arith, length-append out (Or ∷ []))
 joined_longer false out = omega arith
 
--- the count of parts has room where the nodes have
+-- the count of parts has room where the elements have
 pub parts_room : (old joined : Kept) (rest : List Frame) (f : Frame) → IsKept old → joined ≡ record old { out = joined_out old } → joined.frames ≡ rest ++ (f ∷ []) → parts_of f.bracket ≤ length joined.out
 parts_room old joined rest f k is e =
     omega (arith, keeps_le old rest f k (sym (ap (λ c. c.frames) is) ∙ e), joined_longer old.or_waits old.out, ap (λ c. length c.out) is)

@@ -1,8 +1,8 @@
 -- The grammar of formulas over tokens.
 use Rattle.std.specs.Prelude.{ℕ, List, [], ◌∷◌, ◌++◌}
 use Rattle.text_tokens.specs.FirstFaults as faults
-use Rattle.group_formula.specs.declared.token.Token.{Token}
-use Rattle.group_formula.specs.declared.token.Token.TheVariants.{Name, Number, Of, Bar, Ampersand, Open, Close, Comma}
+use Rattle.group_formula.specs.declared.token.FormulaToken.{FormulaToken}
+use Rattle.group_formula.specs.declared.token.FormulaToken.TheVariants.{Name, Number, Of, Bar, Ampersand, Open, Close, Comma}
 use Rattle.group_formula.specs.Trees.{Tree, Trees}
 use Rattle.group_formula.specs.Trees.Tree.{leaf, both, either, at_least}
 use Rattle.group_formula.specs.Trees.Trees.{one_tree, more_trees}
@@ -31,25 +31,25 @@ mutual
 
 -- the tokens of a formula
 abbrev mutual
-  pub spell : Expr → List Token
+  pub spell : Expr → List FormulaToken
   spell (one_term t) = spell_term t
   spell (or_term e t) = spell e ++ (Bar ∷ spell_term t)
 
-  pub spell_term : Term → List Token
+  pub spell_term : Term → List FormulaToken
   spell_term (one_factor f) = spell_factor f
   spell_term (and_factor t f) = spell_term t ++ (Ampersand ∷ spell_factor f)
 
-  pub spell_factor : Factor → List Token
+  pub spell_factor : Factor → List FormulaToken
   spell_factor (named at) = Name at ∷ []
   spell_factor (grouped e) = Open ∷ (spell e ++ (Close ∷ []))
   spell_factor (counted at ps) = Number at ∷ Of ∷ Open ∷ (spell_parts ps ++ (Close ∷ []))
 
-  pub spell_parts : Parts → List Token
+  pub spell_parts : Parts → List FormulaToken
   spell_parts (one_part e) = spell e
   spell_parts (more_parts ps e) = spell_parts ps ++ (Comma ∷ spell e)
 
 -- some formula begins with the tokens
-abbrev pub IsViable : List Token → Type 0
+abbrev pub IsViable : List FormulaToken → Type 0
 IsViable ts = faults.IsViable spell ts
 
 -- what a formula says

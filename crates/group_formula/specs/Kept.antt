@@ -1,13 +1,13 @@
--- How the parser keeps a state: marks, open parentheses, and the nodes in postfix order.
+-- How the parser keeps a state: marks, open parentheses, and the elements in postfix order.
 use Rattle.std.specs.Prelude.{◌≡◌, ℕ, ◌+◌, ◌⊎◌, Bool, true, false, List, [], ◌∷◌, ◌++◌, Option, Some, None, Result, Ok, Err, if◌then◌else◌}
 use Rattle.std.specs.declared.alloc.AllocError.{AllocError}
-use Rattle.group_formula.specs.declared.node.Node.{Node}
-use Rattle.group_formula.specs.declared.node.Node.TheVariants.{And, Or, AtLeast}
-use Rattle.group_formula.specs.declared.parser.Mode.{Mode}
-use Rattle.group_formula.specs.declared.parser.Mode.TheVariants as modes
-use Rattle.group_formula.specs.declared.parser.Bracket.{Bracket}
-use Rattle.group_formula.specs.declared.parser.Bracket.TheVariants as brackets
-use Rattle.group_formula.specs.declared.parser.Frame.{Frame}
+use Rattle.group_formula.specs.declared.element.FormulaElement.{FormulaElement}
+use Rattle.group_formula.specs.declared.element.FormulaElement.TheVariants.{And, Or, AtLeast}
+use Rattle.group_formula.specs.declared.formula_parser.FormulaMode.{FormulaMode}
+use Rattle.group_formula.specs.declared.formula_parser.FormulaMode.TheVariants as modes
+use Rattle.group_formula.specs.declared.formula_parser.Bracket.{Bracket}
+use Rattle.group_formula.specs.declared.formula_parser.Bracket.TheVariants as brackets
+use Rattle.group_formula.specs.declared.formula_parser.Frame.{Frame}
 use Rattle.group_formula.specs.Trees.{tree_count}
 use Rattle.group_formula.specs.Postfix.{postfix, postfix_all}
 use Rattle.group_formula.specs.Grammar.{Expr, Term, Parts, shape, shape_term, shape_parts}
@@ -16,52 +16,52 @@ use Rattle.group_formula.specs.Machine.Level.{level}
 use Rattle.group_formula.specs.Machine.Pending.{plain, listed}
 use Rattle.group_formula.specs.Machine.MachineState.{want, want_of, want_open, have}
 
--- what the parser expects next, what waits for a factor, the open parentheses, and the nodes so far
+-- what the parser expects next, what waits for a factor, the open parentheses, and the elements so far
 pub record Kept : Type 0 where
-  pub mode : Mode
+  pub mode : FormulaMode
   pub or_waits : Bool
   pub and_waits : Bool
   pub frames : List Frame
-  pub out : List Node
+  pub out : List FormulaElement
 
 -- whether there is one
 abbrev pub there : {A : Type 0} → Option A → Bool
 there None = false
 there (Some a) = true
 
--- the nodes of the left side of a `|`
-abbrev pub nodes_ors : Option Expr → List Node
-nodes_ors None = []
-nodes_ors (Some e) = postfix (shape e)
+-- the elements of the left side of a `|`
+abbrev pub elements_ors : Option Expr → List FormulaElement
+elements_ors None = []
+elements_ors (Some e) = postfix (shape e)
 
--- the nodes of the left side of an `&`
-abbrev pub nodes_ands : Option Term → List Node
-nodes_ands None = []
-nodes_ands (Some t) = postfix (shape_term t)
+-- the elements of the left side of an `&`
+abbrev pub elements_ands : Option Term → List FormulaElement
+elements_ands None = []
+elements_ands (Some t) = postfix (shape_term t)
 
--- the nodes of the parts of a list that were read
-abbrev pub nodes_done : Option Parts → List Node
-nodes_done None = []
-nodes_done (Some ps) = postfix_all (shape_parts ps)
+-- the elements of the parts of a list that were read
+abbrev pub elements_done : Option Parts → List FormulaElement
+elements_done None = []
+elements_done (Some ps) = postfix_all (shape_parts ps)
 
 -- how many parts of a list were read
 abbrev pub number_done : Option Parts → ℕ
 number_done None = 0
 number_done (Some ps) = tree_count (shape_parts ps)
 
--- the nodes of both left sides
-abbrev pub nodes_level : Level → List Node
-nodes_level (level ors ands) = nodes_ors ors ++ nodes_ands ands
+-- the elements of both left sides
+abbrev pub elements_level : Level → List FormulaElement
+elements_level (level ors ands) = elements_ors ors ++ elements_ands ands
 
--- the nodes of what stands before an open parenthesis, and of the parts of its list that were read
-abbrev pub nodes_pending : Pending → List Node
-nodes_pending (plain l) = nodes_level l
-nodes_pending (listed n l done) = nodes_level l ++ nodes_done done
+-- the elements of what stands before an open parenthesis, and of the parts of its list that were read
+abbrev pub elements_pending : Pending → List FormulaElement
+elements_pending (plain l) = elements_level l
+elements_pending (listed n l done) = elements_level l ++ elements_done done
 
--- the nodes of what stands before the last open parenthesis, in the order of the text
-abbrev pub nodes_all : List Pending → List Node
-nodes_all [] = []
-nodes_all (f ∷ fs) = nodes_all fs ++ nodes_pending f
+-- the elements of what stands before the last open parenthesis, in the order of the text
+abbrev pub elements_all : List Pending → List FormulaElement
+elements_all [] = []
+elements_all (f ∷ fs) = elements_all fs ++ elements_pending f
 
 -- how an open parenthesis is kept
 abbrev pub frame_of : Pending → Frame
@@ -84,21 +84,21 @@ kept_of (want (level ors ands) fs) = record {
   or_waits = there ors;
   and_waits = there ands;
   frames = frames_of fs;
-  out = nodes_all fs ++ (nodes_ors ors ++ nodes_ands ands);
+  out = elements_all fs ++ (elements_ors ors ++ elements_ands ands);
 }
 kept_of (want_of n (level ors ands) fs) = record {
   mode = modes.WantOf n;
   or_waits = there ors;
   and_waits = there ands;
   frames = frames_of fs;
-  out = nodes_all fs ++ (nodes_ors ors ++ nodes_ands ands);
+  out = elements_all fs ++ (elements_ors ors ++ elements_ands ands);
 }
 kept_of (want_open n (level ors ands) fs) = record {
   mode = modes.WantOpen n;
   or_waits = there ors;
   and_waits = there ands;
   frames = frames_of fs;
-  out = nodes_all fs ++ (nodes_ors ors ++ nodes_ands ands);
+  out = elements_all fs ++ (elements_ors ors ++ elements_ands ands);
 }
 kept_of (have ors t fs) =
     record {
@@ -106,7 +106,7 @@ kept_of (have ors t fs) =
       or_waits = there ors;
       and_waits = false;
       frames = frames_of fs;
-      out = nodes_all fs ++ (nodes_ors ors ++ postfix (shape_term t));
+      out = elements_all fs ++ (elements_ors ors ++ postfix (shape_term t));
     }
 
 -- a factor was written
@@ -121,11 +121,11 @@ with_factor c =
     }
 
 -- a term was written, and the expression before it is joined to it
-abbrev pub joined_out : Kept → List Node
+abbrev pub joined_out : Kept → List FormulaElement
 joined_out c = if c.or_waits then c.out ++ (Or ∷ []) else c.out
 
--- what the end of a list makes of the nodes
-abbrev pub closed_out : Bracket → List Node → List Node
+-- what the end of a list makes of the elements
+abbrev pub closed_out : Bracket → List FormulaElement → List FormulaElement
 closed_out brackets.Group out = out
 closed_out (brackets.List n parts) out = out ++ (AtLeast n (parts + 1) ∷ [])
 

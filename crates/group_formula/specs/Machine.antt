@@ -1,7 +1,7 @@
 -- What a reader that goes from left to right has read, and its steps.
 use Rattle.std.specs.Prelude.{ℕ, List, [], ◌∷◌, Option, Some, None}
-use Rattle.group_formula.specs.declared.token.Token.{Token}
-use Rattle.group_formula.specs.declared.token.Token.TheVariants.{Name, Number, Of, Bar, Ampersand, Open, Close, Comma}
+use Rattle.group_formula.specs.declared.token.FormulaToken.{FormulaToken}
+use Rattle.group_formula.specs.declared.token.FormulaToken.TheVariants.{Name, Number, Of, Bar, Ampersand, Open, Close, Comma}
 use Rattle.group_formula.specs.Grammar.{Expr, Term, Factor, Parts}
 use Rattle.group_formula.specs.Grammar.Expr.{one_term, or_term}
 use Rattle.group_formula.specs.Grammar.Term.{one_factor, and_factor}
@@ -60,7 +60,7 @@ abbrev pub empty : Level
 empty = level None None
 
 -- the state after one more token, None where no formula goes on with it
-abbrev pub step : MachineState → Token → Option MachineState
+abbrev pub step : MachineState → FormulaToken → Option MachineState
 step (want l fs) (Name p) = Some (take_factor l (named p) fs)
 step (want l fs) (Number n) = Some (want_of n l fs)
 step (want l fs) Open = Some (want empty (plain l ∷ fs))

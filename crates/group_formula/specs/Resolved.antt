@@ -1,7 +1,7 @@
--- The second pass over the nodes in postfix order.
+-- The second pass over the elements in postfix order.
 use Rattle.std.specs.Prelude.{ℕ, nat_le, nat_lt, ◌&&◌, List, [], ◌∷◌, Option, Some, None, Result, Ok, Err, if◌then◌else◌, unwrap_or}
-use Rattle.group_formula.specs.declared.node.Node.{Node}
-use Rattle.group_formula.specs.declared.node.Node.TheVariants.{Name, And, Or, AtLeast}
+use Rattle.group_formula.specs.declared.element.FormulaElement.{FormulaElement}
+use Rattle.group_formula.specs.declared.element.FormulaElement.TheVariants.{Name, And, Or, AtLeast}
 use Rattle.group_formula.specs.declared.fault.FormulaFault.{FormulaFault}
 use Rattle.group_formula.specs.declared.fault.FormulaFault.TheVariants.{Syntax, UnknownName, BadCount, TooDeep, TooManyNodes, Memory}
 use Rattle.group_formula.specs.Formulas.{Reading, bad_name, bad_count}
@@ -25,30 +25,30 @@ earlier None y = y
 earlier (Some x) None = Some x
 earlier (Some x) (Some y) = if nat_lt (fault_place x) (fault_place y) then Some x else Some y
 
--- the fault of a node
-abbrev pub bad_node : Reading → Node → Option FormulaFault
-bad_node r (Name at) = bad_name r at
-bad_node r And = None
-bad_node r Or = None
-bad_node r (AtLeast at parts) = bad_count r at parts
+-- the fault of an element
+abbrev pub bad_element : Reading → FormulaElement → Option FormulaFault
+bad_element r (Name at) = bad_name r at
+bad_element r And = None
+bad_element r Or = None
+bad_element r (AtLeast at parts) = bad_count r at parts
 
--- the node of parties and counts, from the node of places
-abbrev pub resolved_node : Reading → Node → Node
-resolved_node r (Name at) = Name (unwrap_or (r.party at) 0)
-resolved_node r And = And
-resolved_node r Or = Or
-resolved_node r (AtLeast at parts) = AtLeast (r.number at) parts
+-- the element of parties and counts, from the element of places
+abbrev pub resolved_element : Reading → FormulaElement → FormulaElement
+resolved_element r (Name at) = Name (unwrap_or (r.party at) 0)
+resolved_element r And = And
+resolved_element r Or = Or
+resolved_element r (AtLeast at parts) = AtLeast (r.number at) parts
 
--- the node, if there is no fault
-abbrev pub unless : Option FormulaFault → Node → Result Node FormulaFault
-unless None node = Ok node
-unless (Some fault) node = Err fault
+-- the element, if there is no fault
+abbrev pub unless : Option FormulaFault → FormulaElement → Result FormulaElement FormulaFault
+unless None element = Ok element
+unless (Some fault) element = Err fault
 
--- what a node means, or its fault
-abbrev pub meaning : Reading → Node → Result Node FormulaFault
-meaning r node = unless (bad_node r node) (resolved_node r node)
+-- what an element means, or its fault
+abbrev pub meaning : Reading → FormulaElement → Result FormulaElement FormulaFault
+meaning r element = unless (bad_element r element) (resolved_element r element)
 
--- the fault among the nodes that stands first in the text
-unfoldable pub least : Reading → List Node → Option FormulaFault
+-- the fault among the elements that stands first in the text
+unfoldable pub least : Reading → List FormulaElement → Option FormulaFault
 least r [] = None
-least r (n ∷ ns) = earlier (bad_node r n) (least r ns)
+least r (n ∷ ns) = earlier (bad_element r n) (least r ns)

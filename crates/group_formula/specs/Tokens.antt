@@ -3,11 +3,11 @@ use Rattle.std.specs.Prelude.{ℕ, Bool, true, false, nat_eq, List, if◌then◌
 use Rattle.std.specs.Str.{bytes_eq}
 use Rattle.text_tokens.specs.Tokens.{is_blank}
 use Rattle.text_tokens.specs.RunTokens.{Language}
-use Rattle.group_formula.specs.declared.token.Token.{Token}
-use Rattle.group_formula.specs.declared.token.Token.TheVariants.{Name, Number, Of, Bar, Ampersand, Open, Close, Comma, Unknown}
+use Rattle.group_formula.specs.declared.token.FormulaToken.{FormulaToken}
+use Rattle.group_formula.specs.declared.token.FormulaToken.TheVariants.{Name, Number, Of, Bar, Ampersand, Open, Close, Comma, Unknown}
 
 -- the token of a byte that is no blank, no letter and no digit: | & ( ) ,
-abbrev pub symbol : ℕ → Token
+abbrev pub symbol : ℕ → FormulaToken
 symbol c =
     if nat_eq c 124 then Bar
     else if nat_eq c 38 then Ampersand
@@ -17,17 +17,17 @@ symbol c =
     else Unknown
 
 -- the token of the letters, digits and `_` that stand at a place: `of` is no name
-abbrev pub word_token : ℕ → List ℕ → Token
+abbrev pub word_token : ℕ → List ℕ → FormulaToken
 word_token at run = if bytes_eq run (codes "of") then Of else Name at
 
 -- the language of formulas: names, numbers, `of` and | & ( ) , between blanks
-abbrev pub formula_language : Language Token
+abbrev pub formula_language : Language FormulaToken
 formula_language = record { is_blank = is_blank; word = word_token; number = λ at. Number at; symbol = symbol }
 
--- a name, `&`, `|` and `of` are one node each
-abbrev pub is_node : Token → Bool
-is_node (Name at) = true
-is_node Of = true
-is_node Bar = true
-is_node Ampersand = true
-is_node _ = false
+-- a name, `&`, `|` and `of` are one element each
+abbrev pub is_element : FormulaToken → Bool
+is_element (Name at) = true
+is_element Of = true
+is_element Bar = true
+is_element Ampersand = true
+is_element _ = false

@@ -19,7 +19,7 @@ pub enum FormulaFault {
     BadCount { at: u64 },
     /// The 33rd open parenthesis.
     TooDeep { at: u64 },
-    /// The 257th node.
+    /// The 257th element.
     TooManyNodes { at: u64 },
     /// There was too little memory.
     Memory,

@@ -4,7 +4,7 @@ ghost use Rattle.party_set.specs.Parties.{has_party};
 ghost use Rattle.group_formula.specs.Trees.{value, is_tolerated, IsSoundTree, Meaning};
 ghost use Rattle.group_formula.specs.Postfix.{tree_of, WritesFormula};
 
-use crate::node::Node;
+use crate::element::FormulaElement;
 use crate::values::evaluate;
 use maximal_groups::Family;
 use party_set::{Group, MOST_PARTIES};
@@ -15,7 +15,7 @@ use std::marker::Model;
 #[derive(Drop)]
 pub struct Formula {
     parties: u32,
-    nodes: Vec<Node>,
+    elements: Vec<FormulaElement>,
 }
 
 impl Model for Formula {
@@ -27,18 +27,18 @@ impl Model for Formula {
 
     ghost coded = { formula_coded };
 
-    ghost view = { λ f. record { parties = f.parties; tree = tree_of f.nodes.items } };
+    ghost view = { λ f. record { parties = f.parties; tree = tree_of f.elements.items } };
 
-    ghost invariant = { λ f. WritesFormula f.parties f.nodes.items };
+    ghost invariant = { λ f. WritesFormula f.parties f.elements.items };
 }
 
 impl Formula {
-    /// The formula whose nodes stand in postfix order.
-    pub(crate) fn of(parties: u32, nodes: Vec<Node>) -> Formula
-        requires { WritesFormula parties nodes.items }
-        ensures { result ≡ record { parties = parties; tree = tree_of nodes.items } }
+    /// The formula whose elements stand in postfix order.
+    pub(crate) fn of(parties: u32, elements: Vec<FormulaElement>) -> Formula
+        requires { WritesFormula parties elements.items }
+        ensures { result ≡ record { parties = parties; tree = tree_of elements.items } }
     {
-        Formula { parties, nodes }
+        Formula { parties, elements }
     }
 
     /// How many parties there are.
@@ -55,7 +55,7 @@ impl Formula {
         requires { g.parties ≡ self.now.parties }
         ensures { result ≡ value (has_party g.mask) self.now.tree }
     {
-        evaluate(&self.nodes, g)
+        evaluate(&self.elements, g)
     }
 }
 

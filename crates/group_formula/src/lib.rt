@@ -8,12 +8,12 @@
 //! ```
 #![tactic(auto)]
 
+mod element;
 mod fault;
 mod formula;
+mod formula_parser;
 mod limits;
-mod node;
 mod parse;
-mod parser;
 mod read;
 mod resolve;
 mod token;

@@ -2,23 +2,23 @@
 ghost use Rattle.std.specs.Prelude.{◌≡◌, MatchResult, ◌≤◌};
 ghost use Rattle.group_formula.specs.Parsed.{IsParsed, StopsParsing};
 
+use crate::element::FormulaElement;
 use crate::fault::FormulaFault;
+use crate::formula_parser::FormulaParser;
 use crate::limits::{MOST_NODES, MOST_OPEN};
-use crate::node::Node;
-use crate::parser::Parser;
-use crate::token::Token;
+use crate::token::FormulaToken;
 use std::alloc::Global;
 use text_tokens::next_token;
 
-/// The nodes of the formula in postfix order, its names and numbers told by their places, or the fault of the first
+/// The elements of the formula in postfix order, its names and numbers told by their places, or the fault of the first
 /// token that has one.
-pub(crate) fn parse(alloc: Global, text: &[u8]) -> Result<Vec<Node>, FormulaFault>
-    ensures { MatchResult result (λ nodes. IsParsed text.now nodes.items) (StopsParsing text.now) }
+pub(crate) fn parse(alloc: Global, text: &[u8]) -> Result<Vec<FormulaElement>, FormulaFault>
+    ensures { MatchResult result (λ elements. IsParsed text.now elements.items) (StopsParsing text.now) }
 {
-    let mut parser = Parser::new(alloc);
-    let mut nodes = 0;
+    let mut parser = FormulaParser::new(alloc);
+    let mut elements = 0;
     let mut from = 0;
-    while let Some(cut) = next_token::<Token>(text, from) {
+    while let Some(cut) = next_token::<FormulaToken>(text, from) {
         let at = cut.at as u64;
         match parser.advance(cut.token) {
             Err(_) => return Err(FormulaFault::Memory),
@@ -31,11 +31,11 @@ pub(crate) fn parse(alloc: Global, text: &[u8]) -> Result<Vec<Node>, FormulaFaul
         if parser.depth() > MOST_OPEN {
             return Err(FormulaFault::TooDeep { at });
         }
-        if cut.token.is_node() {
-            if nodes == MOST_NODES {
+        if cut.token.is_element() {
+            if elements == MOST_NODES {
                 return Err(FormulaFault::TooManyNodes { at });
             }
-            nodes += 1;
+            elements += 1;
         }
         from = cut.end;
     }
@@ -44,8 +44,8 @@ pub(crate) fn parse(alloc: Global, text: &[u8]) -> Result<Vec<Node>, FormulaFaul
             at: text.len() as u64,
         });
     }
-    match parser.into_nodes() {
-        Ok(nodes) => Ok(nodes),
+    match parser.into_elements() {
+        Ok(elements) => Ok(elements),
         Err(_) => Err(FormulaFault::Memory),
     }
 }

@@ -11,13 +11,13 @@ use party_names::Names;
 use std::alloc::Global;
 
 /// The formula that a text stands for over these names, or the one fault of the text. At most 32 parentheses are open
-/// at once, and a name, `&`, `|` and `of` make one node each, at most 256.
+/// at once, and a name, `&`, `|` and `of` make one element each, at most 256.
 pub fn read_formula(alloc: Global, text: &str, names: &Names) -> Result<Formula, FormulaFault>
     ensures { MatchResult result (IsFormula text.now names.now) (Refuses text.now names.now) }
 {
     let text = text.as_bytes();
-    let nodes = parse(alloc, text)?;
-    resolve(text, names, nodes)
+    let elements = parse(alloc, text)?;
+    resolve(text, names, elements)
 }
 
 /// Over any names a text stands for a formula exactly where it has no fault, and for one only.

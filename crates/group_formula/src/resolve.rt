@@ -1,12 +1,12 @@
 //! The second pass: what the names and the numbers mean.
 ghost use Rattle.std.specs.Prelude.{◌≡◌, ◌*◌, ◌&&◌, map, MatchResult, Option, Some, None};
 ghost use Rattle.group_formula.specs.Formulas.{number_in_text, reading, IsFormula, IsSecondFault};
-ghost use Rattle.group_formula.specs.Resolved.{good_count, meaning, earlier, least, resolved_node};
+ghost use Rattle.group_formula.specs.Resolved.{good_count, meaning, earlier, least, resolved_element};
 ghost use Rattle.group_formula.specs.Parsed.{IsParsed};
 
+use crate::element::FormulaElement;
 use crate::fault::FormulaFault;
 use crate::formula::Formula;
-use crate::node::Node;
 use party_names::Names;
 use text_tokens::{number_at, with_digit, word_at};
 
@@ -26,24 +26,28 @@ fn count_at(text: &[u8], at: usize, parts: usize) -> Option<usize>
     }
 }
 
-/// What a node means that tells its name or number by the place, or its fault.
-fn resolve_node(text: &[u8], names: &Names, node: Node) -> Result<Node, FormulaFault>
-    ensures { result ≡ meaning (reading text.now names.now) node }
+/// What an element means that tells its name or number by the place, or its fault.
+fn resolve_element(
+    text: &[u8],
+    names: &Names,
+    element: FormulaElement,
+) -> Result<FormulaElement, FormulaFault>
+    ensures { result ≡ meaning (reading text.now names.now) element }
 {
-    match node {
-        Node::Name(at) => match names.number(word_at(text, at)) {
-            Some(party) => Ok(Node::Name(party as usize)),
+    match element {
+        FormulaElement::Name(at) => match names.number(word_at(text, at)) {
+            Some(party) => Ok(FormulaElement::Name(party as usize)),
             None => Err(FormulaFault::UnknownName { at: at as u64 }),
         },
-        Node::AtLeast { number: at, parts } => match count_at(text, at, parts) {
-            Some(count) => Ok(Node::AtLeast {
+        FormulaElement::AtLeast { number: at, parts } => match count_at(text, at, parts) {
+            Some(count) => Ok(FormulaElement::AtLeast {
                 number: count,
                 parts,
             }),
             None => Err(FormulaFault::BadCount { at: at as u64 }),
         },
-        Node::And => Ok(Node::And),
-        Node::Or => Ok(Node::Or),
+        FormulaElement::And => Ok(FormulaElement::And),
+        FormulaElement::Or => Ok(FormulaElement::Or),
     }
 }
 
@@ -57,32 +61,36 @@ fn earlier(known: Option<FormulaFault>, fault: FormulaFault) -> FormulaFault
     }
 }
 
-/// Puts what it means in the place of each node, or finds the fault that stands first in the text.
-fn resolve_nodes(text: &[u8], names: &Names, nodes: &mut [Node]) -> Option<FormulaFault>
-    ensures first { result ≡ least (reading text.now names.now) nodes.old }
-    ensures resolved { result ≡ None → nodes.new ≡ map (resolved_node (reading text.now names.now)) nodes.old }
+/// Puts what it means in the place of each element, or finds the fault that stands first in the text.
+fn resolve_elements(
+    text: &[u8],
+    names: &Names,
+    elements: &mut [FormulaElement],
+) -> Option<FormulaFault>
+    ensures first { result ≡ least (reading text.now names.now) elements.old }
+    ensures resolved { result ≡ None → elements.new ≡ map (resolved_element (reading text.now names.now)) elements.old }
 {
     let mut first = None;
-    for node in nodes.iter_mut() {
-        match resolve_node(text, names, *node) {
-            Ok(meant) => *node = meant,
+    for element in elements.iter_mut() {
+        match resolve_element(text, names, *element) {
+            Ok(meant) => *element = meant,
             Err(fault) => first = Some(earlier(first, fault)),
         }
     }
     first
 }
 
-/// The formula of nodes that tell their names and numbers by their places, or the fault that stands first.
+/// The formula of elements that tell their names and numbers by their places, or the fault that stands first.
 pub(crate) fn resolve(
     text: &[u8],
     names: &Names,
-    mut nodes: Vec<Node>,
+    mut elements: Vec<FormulaElement>,
 ) -> Result<Formula, FormulaFault>
-    requires { IsParsed text.now nodes.items }
+    requires { IsParsed text.now elements.items }
     ensures { MatchResult result (IsFormula text.now names.now) (IsSecondFault text.now names.now) }
 {
-    match resolve_nodes(text, names, &mut nodes) {
+    match resolve_elements(text, names, &mut elements) {
         Some(fault) => Err(fault),
-        None => Ok(Formula::of(names.len(), nodes)),
+        None => Ok(Formula::of(names.len(), elements)),
     }
 }

@@ -1,12 +1,12 @@
 //! The tokens of formulas.
 ghost use Rattle.std.specs.Prelude.{◌≡◌};
-ghost use Rattle.group_formula.specs.Tokens.{is_node};
+ghost use Rattle.group_formula.specs.Tokens.{is_element};
 
 use text_tokens::{RunToken, is_blank};
 
 /// A token. A name and a number are told by the place in the text where they begin.
 #[derive(Clone, Copy, Debug, PartialEq, Eq)]
-pub enum Token {
+pub enum FormulaToken {
     Name(usize),
     Number(usize),
     Of,
@@ -19,19 +19,19 @@ pub enum Token {
     Unknown,
 }
 
-impl Token {
-    /// Whether the token makes a node of the formula.
-    pub fn is_node(self) -> bool
-        ensures { result ≡ is_node self }
+impl FormulaToken {
+    /// Whether the token makes an element of the formula.
+    pub fn is_element(self) -> bool
+        ensures { result ≡ is_element self }
     {
         matches!(
             self,
-            Token::Name(_) | Token::Of | Token::Bar | Token::Ampersand
+            FormulaToken::Name(_) | FormulaToken::Of | FormulaToken::Bar | FormulaToken::Ampersand
         )
     }
 }
 
-impl RunToken for Token {
+impl RunToken for FormulaToken {
     ghost use Rattle.group_formula.specs.Tokens.{formula_language};
 
     ghost language = { formula_language };
@@ -40,26 +40,26 @@ impl RunToken for Token {
         is_blank(byte)
     }
 
-    fn word(at: usize, word: &[u8]) -> Token {
+    fn word(at: usize, word: &[u8]) -> FormulaToken {
         if word == b"of".as_slice() {
-            Token::Of
+            FormulaToken::Of
         } else {
-            Token::Name(at)
+            FormulaToken::Name(at)
         }
     }
 
-    fn number(at: usize) -> Token {
-        Token::Number(at)
+    fn number(at: usize) -> FormulaToken {
+        FormulaToken::Number(at)
     }
 
-    fn symbol(byte: u8) -> Token {
+    fn symbol(byte: u8) -> FormulaToken {
         match byte {
-            b'|' => Token::Bar,
-            b'&' => Token::Ampersand,
-            b'(' => Token::Open,
-            b')' => Token::Close,
-            b',' => Token::Comma,
-            _ => Token::Unknown,
+            b'|' => FormulaToken::Bar,
+            b'&' => FormulaToken::Ampersand,
+            b'(' => FormulaToken::Open,
+            b')' => FormulaToken::Close,
+            b',' => FormulaToken::Comma,
+            _ => FormulaToken::Unknown,
         }
     }
 }

@@ -1,12 +1,12 @@
-//! The truth of a formula, from its nodes in postfix order.
+//! The truth of a formula, from its elements in postfix order.
 ghost use Rattle.std.specs.Prelude.{◌≡◌, ◌≤◌, ◌<◌, ◌+◌, ◌∷◌, [], length, take, drop};
 ghost use Rattle.party_set.specs.Parties.{has_party};
 ghost use Rattle.group_formula.specs.Trees.{Tree, value};
 ghost use Rattle.group_formula.specs.Postfix.{postfix};
 ghost use Rattle.group_formula.specs.Values.{after_value, how_many, top};
 
+use crate::element::FormulaElement;
 use crate::limits::MOST_NODES;
-use crate::node::Node;
 use arrayvec::ArrayVec;
 use party_set::{Group, has_party};
 use std::marker::Model;
@@ -65,32 +65,32 @@ impl Values {
         found
     }
 
-    /// What a node makes of the values before it.
-    fn take_node(&mut self, mask: u32, node: Node)
+    /// What an element makes of the values before it.
+    fn take_element(&mut self, mask: u32, element: FormulaElement)
         requires { length self.old < MOST_NODES }
-        ensures is { self.new ≡ after_value (has_party mask) node self.old }
+        ensures is { self.new ≡ after_value (has_party mask) element self.old }
         ensures long { length self.new ≤ length self.old + 1 }
     {
-        let value = match node {
-            Node::Name(party) => has(mask, party),
-            Node::And => {
+        let value = match element {
+            FormulaElement::Name(party) => has(mask, party),
+            FormulaElement::And => {
                 let second = self.pop();
                 let first = self.pop();
                 first && second
             }
-            Node::Or => {
+            FormulaElement::Or => {
                 let second = self.pop();
                 let first = self.pop();
                 first || second
             }
-            Node::AtLeast { number, parts } => number <= self.pop_many(parts),
+            FormulaElement::AtLeast { number, parts } => number <= self.pop_many(parts),
         };
         self.push(value);
     }
 }
 
 /// Whether the party is a member of the group of this mask.
-#[tactic(auto, using(crate::proofs::NodeValues::has_bit, crate::proofs::NodeValues::has_none))]
+#[tactic(auto, using(crate::proofs::ElementValues::has_bit, crate::proofs::ElementValues::has_none))]
 fn has(mask: u32, party: usize) -> bool
     ensures { result ≡ has_party mask party }
 {
@@ -101,13 +101,13 @@ fn has(mask: u32, party: usize) -> bool
 }
 
 /// Whether the formula is true where exactly the members of the group are.
-pub fn evaluate(nodes: &[Node], group: Group) -> bool
-    requires { length nodes.now ≤ MOST_NODES }
-    ensures { (t : Tree) → nodes.now ≡ postfix t → result ≡ value (has_party group.mask) t }
+pub fn evaluate(elements: &[FormulaElement], group: Group) -> bool
+    requires { length elements.now ≤ MOST_NODES }
+    ensures { (t : Tree) → elements.now ≡ postfix t → result ≡ value (has_party group.mask) t }
 {
     let mut values = Values::new();
-    for node in nodes {
-        values.take_node(group.mask(), *node);
+    for element in elements {
+        values.take_element(group.mask(), *element);
     }
     values.pop()
 }

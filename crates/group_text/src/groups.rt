@@ -4,7 +4,7 @@ ghost use Rattle.group_text.specs.GroupTexts.{group_in, group_of, parts_of};
 ghost use Rattle.group_text.specs.Masks.{mask_with};
 
 use crate::fault::GroupFault;
-use crate::parts::Parts;
+use crate::group_parts::GroupParts;
 use party_names::Names;
 use party_set::{Group, group_of_mask, has_party, with_party};
 
@@ -31,7 +31,7 @@ fn named_group(text: &str, names: &Names) -> Result<Group, GroupFault>
     let parties = names.len();
     let mut mask = 0;
     let mut at = 0;
-    for part in Parts::of(text) {
+    for part in GroupParts::of(text) {
         let Some(more) = mask_with(mask, part, names) else {
             return Err(GroupFault::BadGroup { at });
         };

@@ -2,8 +2,8 @@
 #![tactic(auto)]
 
 mod fault;
+mod group_parts;
 mod groups;
-mod parts;
 
 pub use fault::GroupFault;
 pub use groups::read_group;

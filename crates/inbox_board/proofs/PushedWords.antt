@@ -3,40 +3,40 @@ use Rattle.std.proofs.Common.{◌≡◌, ℕ, zero, suc, ◌+◌, ◌<◌, List,
 use Rattle.std.specs.Prelude.{slice_index}
 use Rattle.message_board.specs.Pairs.{Knows}
 use Rattle.message_board.proofs.Pairs.{knows_left, knows_right}
-use Rattle.inbox_board.specs.declared.steps.View.{View}
+use Rattle.inbox_board.specs.declared.steps.InboxView.{InboxView}
 use Rattle.inbox_board.specs.Rule.{newcomer, pushes, later, later_total}
 use Rattle.inbox_board.specs.Folds.{pushed, FoldTells}
 
-pub pushed_pens : (v : View) (words : List ℕ) → (pushed v words).pens ≡ v.pens
+pub pushed_pens : (v : InboxView) (words : List ℕ) → (pushed v words).pens ≡ v.pens
 pushed_pens v [] = refl
 pushed_pens v (word ∷ words) = pushed_pens (pushes v word) words
 
-pub pushed_ended : (v : View) (words : List ℕ) → (pushed v words).ended ≡ v.ended
+pub pushed_ended : (v : InboxView) (words : List ℕ) → (pushed v words).ended ≡ v.ended
 pushed_ended v [] = refl
 pushed_ended v (word ∷ words) = pushed_ended (pushes v word) words
 
-pub pushed_length : (v : View) (words : List ℕ) → (pushed v words).length ≡ v.length + length words
+pub pushed_length : (v : InboxView) (words : List ℕ) → (pushed v words).length ≡ v.length + length words
 pushed_length v [] = omega arith
 pushed_length v (word ∷ words) = let a = pushed_length (pushes v word) words in omega arith
 
-pub pushed_more : (v : View) (words : List ℕ) (word : ℕ) → pushed v (words ++ word ∷ []) ≡ pushes (pushed v words) word
+pub pushed_more : (v : InboxView) (words : List ℕ) (word : ℕ) → pushed v (words ++ word ∷ []) ≡ pushes (pushed v words) word
 pushed_more v [] word = refl
 pushed_more v (w ∷ words) word = pushed_more (pushes v w) words word
 
-pushed_noted : (v : View) (words : List ℕ) → (pushed v words).noted ≡ v.noted
+pushed_noted : (v : InboxView) (words : List ℕ) → (pushed v words).noted ≡ v.noted
 pushed_noted v [] = refl
 pushed_noted v (word ∷ words) = pushed_noted (pushes v word) words
 
-pushed_total : (v : View) (words : List ℕ) → (pushed v words).total ≡ v.total
+pushed_total : (v : InboxView) (words : List ℕ) → (pushed v words).total ≡ v.total
 pushed_total v [] = refl
 pushed_total v (word ∷ words) = pushed_total (pushes v word) words
 
 -- a word that is known stays known
-still_known : (v : View) (words : List ℕ) (p w : ℕ) → Knows v.seen p w → Knows (pushed v words).seen p w
+still_known : (v : InboxView) (words : List ℕ) (p w : ℕ) → Knows v.seen p w → Knows (pushed v words).seen p w
 still_known v [] p w h = h
 still_known v (word ∷ words) p w h = still_known (pushes v word) words p w (inr h)
 
-pushed_known : (v : View) (words : List ℕ) (p : ℕ) → p < length words → Knows (pushed v words).seen (v.length + p) (slice_index words p)
+pushed_known : (v : InboxView) (words : List ℕ) (p : ℕ) → p < length words → Knows (pushed v words).seen (v.length + p) (slice_index words p)
 pushed_known v [] p l = absurd (omega arith)
 pushed_known v (word ∷ words) zero l = still_known (pushes v word) words (v.length + 0) word (inl (omega arith, refl))
 pushed_known v (word ∷ words) (suc p) l = subst (λ z. Knows (pushed (pushes v word) words).seen z (slice_index words p)) (omega arith) (pushed_known (pushes v word) words p (omega arith))
@@ -51,7 +51,7 @@ later_total_none a (Some n) e = refl
 
 pub fold_tells : FoldTells
 fold_tells words given reader none unended h =
-    let v : View = pushed (newcomer 1) words in
+    let v : InboxView = pushed (newcomer 1) words in
     let long : v.length ≡ 0 + length words = pushed_length (newcomer 1) words in
     let pens : v.pens ≡ 1 = pushed_pens (newcomer 1) words in
     let noted : v.noted ≡ 0 = pushed_noted (newcomer 1) words in

@@ -7,20 +7,20 @@ use lib.ListN.{get_elem?}
 use Rattle.atomic_table.specs.Table.{State, Me, step, keeps, Allows, Splits, Joins}
 use Rattle.atomic_table.proofs.Lists.{at_set, at_snoc, set_again}
 use Rattle.message_board.proofs.Pairs.{knows_split, total_set, total_snoc, total_two, length_set}
-use Rattle.inbox_board.specs.declared.steps.View.{View}
+use Rattle.inbox_board.specs.declared.steps.InboxView.{InboxView}
 use Rattle.inbox_board.specs.Rule.{IsInbox, IsWriter, IsTold, count_in, mark_in, value_in, newcomer, stores, counts_it, finds, gets, ends, notes, total_after, later, later_total, folds, stored_step, counted_step, found_step, got_step, ended_step, noted_step, compared_step}
 
 abbrev St : Type 0
-St = State (Unit {0}) View
+St = State (Unit {0}) InboxView
 
 abbrev M : Type 0
-M = Me (Unit {0}) View
+M = Me (Unit {0}) InboxView
 
-abbrev pens_of : View → ℕ
+abbrev pens_of : InboxView → ℕ
 pens_of v = v.pens
 
 -- what a view knows stays true where the count falls by nothing, the mark stays or was 0, where there is a mark the count stays, and no value below the count changes
-reads_on : (vs ws : List ℕ) → count_in vs ≤ count_in ws → ((m : ℕ) → m ≢ 0 → m ≡ mark_in vs → (m ≡ mark_in ws) × (count_in ws ≡ count_in vs)) → ((p : ℕ) → p < count_in vs → value_in ws p ≡ value_in vs p) → (u : View) → IsTold vs u → IsTold ws u
+reads_on : (vs ws : List ℕ) → count_in vs ≤ count_in ws → ((m : ℕ) → m ≢ 0 → m ≡ mark_in vs → (m ≡ mark_in ws) × (count_in ws ≡ count_in vs)) → ((p : ℕ) → p < count_in vs → value_in ws p ≡ value_in vs p) → (u : InboxView) → IsTold vs u → IsTold ws u
 reads_on vs ws more mark values u h =
     record {
       seen = λ p w known. let r = h.seen p w known in let l = r.0 in (omega arith, values p r.0 ∙ r.1);
@@ -54,24 +54,24 @@ module _ (places : ℕ) where
   R = IsInbox places
 
   -- no other view has a pen
-  lone : (s : St) → R s → (id : ℕ) (v : View) → get_elem? s.views id ≡ some v → 0 < v.pens → (j : ℕ) (u : View) → j ≢ id → get_elem? s.views j ≡ some u → ¬ (0 < u.pens)
+  lone : (s : St) → R s → (id : ℕ) (v : InboxView) → get_elem? s.views id ≡ some v → 0 < v.pens → (j : ℕ) (u : InboxView) → j ≢ id → get_elem? s.views j ≡ some u → ¬ (0 < u.pens)
   lone s h id v at pen j u ne there more = let two = total_two pens_of s.views id j v u (λ e. ne (sym e)) at there in let o = h.pen in absurd (omega arith)
 
-  changed : (s : St) → R s → (id : ℕ) (v w : View) → get_elem? s.views id ≡ some v → w.pens ≡ v.pens → (ws : List ℕ) → length ws ≡ length s.words
+  changed : (s : St) → R s → (id : ℕ) (v w : InboxView) → get_elem? s.views id ≡ some v → w.pens ≡ v.pens → (ws : List ℕ) → length ws ≡ length s.words
       → (0 < w.pens → IsWriter ws w) → IsTold ws w
-      → ((j : ℕ) (u : View) → j ≢ id → get_elem? s.views j ≡ some u → 0 < u.pens → IsWriter ws u)
-      → ((u : View) → IsTold s.words u → IsTold ws u)
+      → ((j : ℕ) (u : InboxView) → j ≢ id → get_elem? s.views j ≡ some u → 0 < u.pens → IsWriter ws u)
+      → ((u : InboxView) → IsTold s.words u → IsTold ws u)
       → R record { words = ws; homes = s.homes; views = set s.views id w }
   changed s h id v w at pens ws len writes reads others on =
       record {
         size = len ∙ h.size;
         pen = (let t = total_set pens_of s.views id v w at in let o = h.pen in omega arith);
-        writer = λ j u e. ⊎_elim (λ (t : (j ≡ id) × (w ≡ u)). subst (λ (y : View). 0 < y.pens → IsWriter ws y) t.1 writes) (λ (t : (j ≢ id) × (get_elem? s.views j ≡ some u)). others j u t.0 t.1) (at_set s.views id j w u e);
-        told = λ j u e. ⊎_elim (λ (t : (j ≡ id) × (w ≡ u)). subst (λ (y : View). IsTold ws y) t.1 reads) (λ (t : (j ≢ id) × (get_elem? s.views j ≡ some u)). on u (h.told j u t.1)) (at_set s.views id j w u e);
+        writer = λ j u e. ⊎_elim (λ (t : (j ≡ id) × (w ≡ u)). subst (λ (y : InboxView). 0 < y.pens → IsWriter ws y) t.1 writes) (λ (t : (j ≢ id) × (get_elem? s.views j ≡ some u)). others j u t.0 t.1) (at_set s.views id j w u e);
+        told = λ j u e. ⊎_elim (λ (t : (j ≡ id) × (w ≡ u)). subst (λ (y : InboxView). IsTold ws y) t.1 reads) (λ (t : (j ≢ id) × (get_elem? s.views j ≡ some u)). on u (h.told j u t.1)) (at_set s.views id j w u e);
       }
 
   -- one view changes, and no word
-  quiet : (s : St) → R s → (id i : ℕ) (v w : View) → get_elem? s.views id ≡ some v → w.pens ≡ v.pens → (0 < w.pens → IsWriter s.words w) → IsTold s.words w
+  quiet : (s : St) → R s → (id i : ℕ) (v w : InboxView) → get_elem? s.views id ≡ some v → w.pens ≡ v.pens → (0 < w.pens → IsWriter s.words w) → IsTold s.words w
       → R record { words = set s.words i (get_or s.words i 0); homes = s.homes; views = set s.views id w }
   quiet s h id i v w at pens writes reads =
       subst (λ ws. R record { words = ws; homes = s.homes; views = set s.views id w }) (sym (set-get_or s.words i 0))
@@ -86,7 +86,7 @@ module _ (places : ℕ) where
         let else : (k : ℕ) → k ≢ i → get_or ws k 0 ≡ get_or s.words k 0 = λ k ne. get_or-set_other s.words i k w 0 ne in
         let count : count_in ws ≡ count_in s.words = else 1 (λ e. omega arith) in
         let mark : mark_in ws ≡ mark_in s.words = else 2 (λ e. omega arith) in
-        let on : (u : View) → IsTold s.words u → IsTold ws u = reads_on s.words ws (omega arith) (λ m ne e. (e ∙ sym mark, count)) (λ p less. else (p + 3) (λ e. let l = writes.length in omega arith)) in (
+        let on : (u : InboxView) → IsTold s.words u → IsTold ws u = reads_on s.words ws (omega arith) (λ m ne e. (e ∙ sym mark, count)) (λ p less. else (p + 3) (λ e. let l = writes.length in omega arith)) in (
           stores me.0 w,
           keeps,
           tt,
@@ -110,7 +110,7 @@ module _ (places : ℕ) where
         let count : count_in ws ≡ n = get_or-set_same s.words 1 n 0 (let z = h.size in omega arith) in
         let mark : mark_in ws ≡ mark_in s.words = get_or-set_other s.words 1 2 n 0 (λ e. omega arith) in
         let value : (p : ℕ) → value_in ws p ≡ value_in s.words p = λ p. get_or-set_other s.words 1 (p + 3) n 0 (λ e. omega arith) in
-        let on : (u : View) → IsTold s.words u → IsTold ws u = reads_on s.words ws (let l = writes.length in omega arith) (λ m ne e. absurd (ne (e ∙ sym writes.ended ∙ open_))) (λ p less. value p) in
+        let on : (u : InboxView) → IsTold s.words u → IsTold ws u = reads_on s.words ws (let l = writes.length in omega arith) (λ m ne e. absurd (ne (e ∙ sym writes.ended ∙ open_))) (λ p less. value p) in
         let r = on me.0 reads in (
           v',
           keeps,
@@ -174,7 +174,7 @@ module _ (places : ℕ) where
         let mark : mark_in ws ≡ m = get_or-set_same s.words 2 m 0 (let z = h.size in omega arith) in
         let count : count_in ws ≡ count_in s.words = get_or-set_other s.words 2 1 m 0 (λ e. omega arith) in
         let value : (p : ℕ) → value_in ws p ≡ value_in s.words p = λ p. get_or-set_other s.words 2 (p + 3) m 0 (λ e. omega arith) in
-        let on : (u : View) → IsTold s.words u → IsTold ws u = reads_on s.words ws (omega arith) (λ x ne e. absurd (ne (e ∙ sym writes.ended ∙ open_))) (λ p less. value p) in
+        let on : (u : InboxView) → IsTold s.words u → IsTold ws u = reads_on s.words ws (omega arith) (λ x ne e. absurd (ne (e ∙ sym writes.ended ∙ open_))) (λ p less. value p) in
         let r = on me.0 (h.told id me.0 at) in (
           ends me.0 m,
           keeps,
@@ -220,17 +220,17 @@ module _ (places : ℕ) where
         )
 
   -- a seat makes one that reads
-  pub splits_keep : (id : ℕ) (v : View) → Splits R id v v (newcomer 0)
+  pub splits_keep : (id : ℕ) (v : InboxView) → Splits R id v v (newcomer 0)
   splits_keep id v s h at = subst (λ vs. R record { words = s.words; homes = s.homes; views = vs ++ newcomer 0 ∷ [] }) (sym (set_again s.views id v at))
       record {
         size = h.size;
         pen = (let t = total_snoc pens_of s.views (newcomer 0) in let o = h.pen in omega arith);
-        writer = λ j u e. ⊎_elim (λ was. h.writer j u was) (λ (new : newcomer 0 ≡ u). subst (λ (y : View). 0 < y.pens → IsWriter s.words y) new (λ more. absurd (omega arith))) (at_snoc s.views (newcomer 0) u j e);
-        told = λ j u e. ⊎_elim (λ was. h.told j u was) (λ (new : newcomer 0 ≡ u). subst (λ (y : View). IsTold s.words y) new (nothing_read s.words)) (at_snoc s.views (newcomer 0) u j e);
+        writer = λ j u e. ⊎_elim (λ was. h.writer j u was) (λ (new : newcomer 0 ≡ u). subst (λ (y : InboxView). 0 < y.pens → IsWriter s.words y) new (λ more. absurd (omega arith))) (at_snoc s.views (newcomer 0) u j e);
+        told = λ j u e. ⊎_elim (λ was. h.told j u was) (λ (new : newcomer 0 ≡ u). subst (λ (y : InboxView). IsTold s.words y) new (nothing_read s.words)) (at_snoc s.views (newcomer 0) u j e);
       }
 
   -- a seat takes in what another knows
-  pub joins_keep : (id : ℕ) (v : View) (other : ℕ) (u : View) → v.stored ≡ None → (v.pens ≡ 0 → (v.length ≡ 0) × (v.ended ≡ 0)) → (u.pens ≡ 0 → (u.length ≡ 0) × (u.ended ≡ 0)) → Joins R id v other u (folds v u) (newcomer 0)
+  pub joins_keep : (id : ℕ) (v : InboxView) (other : ℕ) (u : InboxView) → v.stored ≡ None → (v.pens ≡ 0 → (v.length ≡ 0) × (v.ended ≡ 0)) → (u.pens ≡ 0 → (u.length ≡ 0) × (u.ended ≡ 0)) → Joins R id v other u (folds v u) (newcomer 0)
   joins_keep id v other u none_stored v_none u_none s h at apart there =
       let both = folds v u in
       let views = set s.views id both in
@@ -257,8 +257,8 @@ module _ (places : ℕ) where
       nothing x e = absurd (cc)
 
       -- what holds of the two and of each other view, holds of each
-      each : (s : St) (id : ℕ) (both : View) (other : ℕ) (P : View → Type 0) → P (newcomer 0) → P both → ((j : ℕ) (y : View) → get_elem? s.views j ≡ some y → P y)
-          → (j : ℕ) (y : View) → get_elem? (set (set s.views id both) other (newcomer 0)) j ≡ some y → P y
+      each : (s : St) (id : ℕ) (both : InboxView) (other : ℕ) (P : InboxView → Type 0) → P (newcomer 0) → P both → ((j : ℕ) (y : InboxView) → get_elem? s.views j ≡ some y → P y)
+          → (j : ℕ) (y : InboxView) → get_elem? (set (set s.views id both) other (newcomer 0)) j ≡ some y → P y
       each s id both other P at_spent at_both at_rest j y e =
           ⊎_elim (λ (t : (j ≡ other) × (newcomer 0 ≡ y)). subst P t.1 at_spent)
           (λ (t : (j ≢ other) × (get_elem? (set s.views id both) j ≡ some y)). ⊎_elim (λ (r : (j ≡ id) × (both ≡ y)). subst P r.1 at_both) (λ (r : (j ≢ id) × (get_elem? s.views j ≡ some y)). at_rest j y r.1) (at_set s.views id j both y t.1))

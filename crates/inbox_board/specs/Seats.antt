@@ -1,7 +1,7 @@
 -- What clauses say of an inbox and its seats.
 use Rattle.std.specs.Prelude.{◌≡◌, ℕ, ◌<◌, ◌≤◌, Bool, Option, Some, None, if◌then◌else◌, ◌==◌}
 use Rattle.atomic_table.specs.Seated.{TableId}
-use Rattle.inbox_board.specs.declared.steps.View.{View}
+use Rattle.inbox_board.specs.declared.steps.InboxView.{InboxView}
 use Rattle.inbox_board.specs.Rule.{finds, gets}
 
 -- an inbox: which table it is, and how many places it has
@@ -12,11 +12,11 @@ pub record InboxModel : Type 0 where
 -- a seat: which table it is of, and what it knows
 pub record SeatModel : Type 0 where
   pub id : TableId
-  pub view : View
+  pub view : InboxView
 
 -- a seat between two calls, which counts the places that it filled: it has stored no value that isn't counted, and
 -- without the pen it has filled no place and given no mark
-pub record IsAtRest (filled : ℕ) (v : View) : Type 0 where
+pub record IsAtRest (filled : ℕ) (v : InboxView) : Type 0 where
   pub stored : v.stored ≡ None
   pub length : filled ≡ v.length
   pub idle : v.pens ≡ 0 → (v.length ≡ 0) × (v.ended ≡ 0)
@@ -27,7 +27,7 @@ MayWrite s = (s.view.pens ≡ 1) × (s.view.ended ≡ 0)
 
 -- a look for the word at a place, by its answer: a count was found that isn't past the place, or one that is, and then
 -- the word
-abbrev pub Looks : View → ℕ → Option ℕ → View → Type 0
+abbrev pub Looks : InboxView → ℕ → Option ℕ → InboxView → Type 0
 Looks before place None after = (n : ℕ) × (n ≤ place) × (after ≡ finds before n)
 Looks before place (Some w) after = (n : ℕ) × (place < n) × (after ≡ gets (finds before n) place w)
 

@@ -4,7 +4,8 @@ ghost use Rattle.std.specs.Prelude.{◌≡◌, ◌≢◌, ℕ, ◌+◌, ◌<◌,
 ghost use Rattle.inbox_board.specs.Seats.{mark_of, mark_as};
 
 use crate::steps::{
-    Compares, Counts, Ends, Finds, Gets, InboxRule, Notes, SplitSeats, Stores, View,
+    Compares, Ends, FindsCount, Gets, InboxRule, InboxView, Notes, SplitReaders, StoresCount,
+    StoresWord,
 };
 use atomic_table::{Seat, Table};
 use std::alloc::{AllocError, Global};
@@ -13,7 +14,7 @@ use std::marker::Model;
 /// Places that one writer fills in order, and a mark at its end, which any thread may look at.
 #[derive(Drop)]
 pub struct Inbox {
-    table: Table<(), View, u32, InboxRule, Global>,
+    table: Table<(), InboxView, u32, InboxRule, Global>,
 }
 
 // To a contract an inbox is which table it is, and how many places it has.
@@ -31,7 +32,7 @@ impl Model for Inbox {
 /// What one thread uses an inbox with, as its writer or as a reader. It knows what it pushed, got and found.
 #[derive(Drop)]
 pub struct InboxSeat {
-    seat: Seat<(), View>,
+    seat: Seat<(), InboxView>,
     length: u32,
 }
 
@@ -88,7 +89,7 @@ impl Inbox {
         ensures other { (result.id ≡ self.now.id) × (result.view ≡ newcomer 0) }
     {
         InboxSeat {
-            seat: self.table.shared.split_seat::<SplitSeats>(&mut seat.seat),
+            seat: self.table.shared.split_seat::<SplitReaders>(&mut seat.seat),
             length: 0,
         }
     }
@@ -104,10 +105,10 @@ impl Inbox {
         let place = seat.length;
         self.table
             .shared
-            .store::<Stores>(&mut seat.seat, place as usize + 3, word);
+            .store::<StoresWord>(&mut seat.seat, place as usize + 3, word);
         self.table
             .shared
-            .store::<Counts>(&mut seat.seat, 1, u64::from(place) + 1);
+            .store::<StoresCount>(&mut seat.seat, 1, u64::from(place) + 1);
         seat.length = place + 1;
     }
 
@@ -130,7 +131,7 @@ impl Inbox {
         ensures looks { Looks seat.old.view place result seat.new.view }
         ensures known { (w : ℕ) → Knows seat.old.view.seen place w → result ≡ Some w }
     {
-        let found = self.table.shared.load::<Finds>(&mut seat.seat, 1);
+        let found = self.table.shared.load::<FindsCount>(&mut seat.seat, 1);
         if found <= u64::from(place) {
             return None;
         }
@@ -169,7 +170,7 @@ impl Inbox {
         } = other;
         self.table
             .shared
-            .join_seat::<SplitSeats>(&mut seat.seat, spent);
+            .join_seat::<SplitReaders>(&mut seat.seat, spent);
         self.table.shared.load::<Compares>(&mut seat.seat, 0);
         seat.length += length;
         seat

@@ -7,4 +7,4 @@ mod steps;
 
 pub use inbox::{Inbox, InboxSeat};
 pub use laws::{a_mark_tells_the_end, what_was_got_was_pushed};
-pub use steps::View;
+pub use steps::InboxView;

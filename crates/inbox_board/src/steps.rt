@@ -3,7 +3,7 @@ use atomic_table::{Join, Play, Split, TableRule};
 use std::collections::LinkedList;
 
 /// What a seat knows. Contracts alone speak of it: no value of it is made.
-pub struct View {
+pub struct InboxView {
     // 1 where it has the pen, which only the writer has, else 0.
     pub pens: u32,
     // With the pen: how many places it has filled, the mark that it gave,
@@ -26,7 +26,7 @@ pub struct View {
 /// The rule of an inbox's table.
 pub struct InboxRule;
 
-impl TableRule<(), View, u32> for InboxRule {
+impl TableRule<(), InboxView, u32> for InboxRule {
     ghost use Rattle.inbox_board.specs.Rule.{IsInbox, newcomer};
 
     ghost holds = { IsInbox };
@@ -35,27 +35,27 @@ impl TableRule<(), View, u32> for InboxRule {
 }
 
 /// The store of a value, the first step of a push.
-pub struct Stores;
+pub struct StoresWord;
 
-impl Play<(), View> for Stores {
+impl Play<(), InboxView> for StoresWord {
     ghost use Rattle.inbox_board.specs.Rule.{stored_step};
 
     ghost then = { stored_step };
 }
 
 /// The store of the count, which ends a push.
-pub struct Counts;
+pub struct StoresCount;
 
-impl Play<(), View> for Counts {
+impl Play<(), InboxView> for StoresCount {
     ghost use Rattle.inbox_board.specs.Rule.{counted_step};
 
     ghost then = { counted_step };
 }
 
 /// The load of the count.
-pub struct Finds;
+pub struct FindsCount;
 
-impl Play<(), View> for Finds {
+impl Play<(), InboxView> for FindsCount {
     ghost use Rattle.inbox_board.specs.Rule.{found_step};
 
     ghost then = { found_step };
@@ -64,7 +64,7 @@ impl Play<(), View> for Finds {
 /// The load of the value at a place.
 pub struct Gets;
 
-impl Play<(), View> for Gets {
+impl Play<(), InboxView> for Gets {
     ghost use Rattle.inbox_board.specs.Rule.{got_step};
 
     ghost then = { got_step };
@@ -73,7 +73,7 @@ impl Play<(), View> for Gets {
 /// The store of the mark.
 pub struct Ends;
 
-impl Play<(), View> for Ends {
+impl Play<(), InboxView> for Ends {
     ghost use Rattle.inbox_board.specs.Rule.{ended_step};
 
     ghost then = { ended_step };
@@ -82,7 +82,7 @@ impl Play<(), View> for Ends {
 /// The load of the mark.
 pub struct Notes;
 
-impl Play<(), View> for Notes {
+impl Play<(), InboxView> for Notes {
     ghost use Rattle.inbox_board.specs.Rule.{noted_step};
 
     ghost then = { noted_step };
@@ -91,16 +91,16 @@ impl Play<(), View> for Notes {
 /// A load that tells how what the seat knows fits together.
 pub struct Compares;
 
-impl Play<(), View> for Compares {
+impl Play<(), InboxView> for Compares {
     ghost use Rattle.inbox_board.specs.Rule.{compared_step};
 
     ghost then = { compared_step };
 }
 
 /// A seat makes another, which reads, and two become one.
-pub struct SplitSeats;
+pub struct SplitReaders;
 
-impl Split<View> for SplitSeats {
+impl Split<InboxView> for SplitReaders {
     ghost use Rattle.inbox_board.specs.Rule.{newcomer};
 
     ghost left = { λ v. v };
@@ -108,7 +108,7 @@ impl Split<View> for SplitSeats {
     ghost right = { λ v. newcomer 0 };
 }
 
-impl Join<View> for SplitSeats {
+impl Join<InboxView> for SplitReaders {
     ghost use Rattle.inbox_board.specs.Rule.{folds, newcomer};
 
     ghost both = { folds };

@@ -7,7 +7,7 @@ use Rattle.toml.specs.Data.{Members}
 use Rattle.toml.specs.View.{view}
 use Rattle.toml.specs.declared.value.Value.{Value}
 use Rattle.toml_fields.specs.Fields.{text_of, texts_at}
-use Rattle.job_file.specs.declared.field.Field.TheVariants.{Hosts, Parties}
+use Rattle.job_file.specs.declared.field.JobField.TheVariants.{Hosts, Parties}
 use Rattle.job_file.specs.declared.fault.JobFault.{JobFault}
 use Rattle.job_file.specs.declared.fault.JobFault.TheVariants.{BadHost}
 use Rattle.job_file.specs.Names.{is_host}

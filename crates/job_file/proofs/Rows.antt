@@ -3,7 +3,7 @@ use Rattle.std.proofs.Common.{◌≡◌, ℕ, ◌≤◌, Bool, [], ◌∷◌, �
 use Rattle.std.proofs.lemmas.Bool.Decides.{nat_tests}
 use Rattle.std.specs.Option.{option_or}
 use Rattle.toml.specs.Data.{Members}
-use Rattle.job_file.specs.declared.field.Field.TheVariants.{Parties, Session}
+use Rattle.job_file.specs.declared.field.JobField.TheVariants.{Parties, Session}
 use Rattle.job_file.specs.declared.fault.JobFault.{JobFault}
 use Rattle.job_file.specs.Names.{top_fields}
 use Rattle.job_file.specs.Forms.{is_version_two, adversary_field, texts, items, tables}

@@ -9,8 +9,8 @@ use Rattle.toml_fields.specs.Documents.{document_of}
 use Rattle.toml_fields.specs.Fields.{has_field, is_misfit}
 use Rattle.toml_fields.specs.Keys.{least_unknown}
 use Rattle.party_names.specs.Names.{party_named, names_fault}
-use Rattle.job_file.specs.declared.field.Field.{Field}
-use Rattle.job_file.specs.declared.field.Field.TheVariants.{Version, RingBits, Parties, Tolerated, Hosts, Port, Frames, Views, Session, Circuit, Layout, Products, Owners, Readers}
+use Rattle.job_file.specs.declared.field.JobField.{JobField}
+use Rattle.job_file.specs.declared.field.JobField.TheVariants.{Version, RingBits, Parties, Tolerated, Hosts, Port, Frames, Views, Session, Circuit, Layout, Products, Owners, Readers}
 use Rattle.job_file.specs.declared.fault.JobFault.{JobFault}
 use Rattle.job_file.specs.declared.fault.JobFault.TheVariants.{NotToml, Version as OtherVersion, Missing, Unknown, WrongKind, BadRing, Names, SessionCount, BadFileName, BadLayout, BadProducts, BadOwner, BadCarry, BadReader, BadHost, BadPort, BadFrames, BadViews, BadTolerated, TooManyTolerated}
 use Rattle.job_file.specs.Names.{field_text, field_kind, top_fields, session_fields, is_file_name, is_host, layout_of}
@@ -41,29 +41,29 @@ bad_in_lists names value (list ∷ rest) =
 
 -- ---- rows on one field
 
-abbrev pub is_there : Field → Members → Bool
+abbrev pub is_there : JobField → Members → Bool
 is_there field fields = has_field (field_text field) fields
 
-abbrev pub is_of_other_kind : Field → Members → Bool
+abbrev pub is_of_other_kind : JobField → Members → Bool
 is_of_other_kind field fields = is_misfit (field_kind field) (field_text field) fields
 
 -- a field that must be there, in a session or (without one) in the top table
-unfoldable pub required_fault : Option ℕ → Field → Members → Option JobFault
+unfoldable pub required_fault : Option ℕ → JobField → Members → Option JobFault
 required_fault session field fields = first_fault
     ((not (is_there field fields) answers Missing session field)
     ∷ (is_of_other_kind field fields answers WrongKind session field)
     ∷ [])
 
 -- a field that may be missing
-unfoldable pub optional_fault : Option ℕ → Field → Members → Option JobFault
+unfoldable pub optional_fault : Option ℕ → JobField → Members → Option JobFault
 optional_fault session field fields = is_of_other_kind field fields answers WrongKind session field
 
 -- a field that must be there for a node
-abbrev pub node_fault : Bool → Field → Members → Option JobFault
+abbrev pub node_fault : Bool → JobField → Members → Option JobFault
 node_fault node field fields = if node then required_fault None field fields else optional_fault None field fields
 
 -- a field that is not among these, the least by bytes
-unfoldable pub unknown_fault : Option ℕ → List Field → Members → Option JobFault
+unfoldable pub unknown_fault : Option ℕ → List JobField → Members → Option JobFault
 unknown_fault session known fields =
     option_map (λ name. Unknown session name) (least_unknown (map field_text known) fields)
 

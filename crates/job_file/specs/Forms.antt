@@ -6,8 +6,8 @@ use Rattle.std.specs.Ordering.{int_eq}
 use Rattle.toml.specs.Data.{Data, Members}
 use Rattle.toml_fields.specs.Fields.{has_field, integer_at, text_at, items_at, texts_at, texts_of, fields_of}
 use Rattle.party_names.specs.Names.{party_named}
-use Rattle.job_file.specs.declared.field.Field.{Field}
-use Rattle.job_file.specs.declared.field.Field.TheVariants.{Version, RingBits, Parties, Formula, Tolerated, Hosts, Port, Frames, Views, Session, Circuit, Layout, Products as ProductsField, Owners, Readers}
+use Rattle.job_file.specs.declared.field.JobField.{JobField}
+use Rattle.job_file.specs.declared.field.JobField.TheVariants.{Version, RingBits, Parties, Formula, Tolerated, Hosts, Port, Frames, Views, Session, Circuit, Layout, Products as ProductsField, Owners, Readers}
 use Rattle.job_file.specs.declared.layout.SessionLayout.{SessionLayout}
 use Rattle.job_file.specs.declared.layout.SessionLayout.TheVariants.{Gates}
 use Rattle.circuit_model.specs.declared.layout.CircuitLayout.TheVariants.{Ring}
@@ -51,24 +51,24 @@ pub record JobForm : Type 0 where
 abbrev pub TextList : Type 0
 TextList = List (List ℕ)
 
-abbrev pub integer : Field → Members → ℤ
+abbrev pub integer : JobField → Members → ℤ
 integer field fields = integer_at (field_text field) fields
 
-abbrev pub text : Field → Members → List ℕ
+abbrev pub text : JobField → Members → List ℕ
 text field fields = text_at (field_text field) fields
 
-abbrev pub texts : Field → Members → TextList
+abbrev pub texts : JobField → Members → TextList
 texts field fields = texts_at (field_text field) fields
 
-abbrev pub items : Field → Members → List Data
+abbrev pub items : JobField → Members → List Data
 items field fields = items_at (field_text field) fields
 
 -- the lists of texts
-abbrev pub lists : Field → Members → List TextList
+abbrev pub lists : JobField → Members → List TextList
 lists field fields = map texts_of (items field fields)
 
 -- the tables
-abbrev pub tables : Field → Members → List Members
+abbrev pub tables : JobField → Members → List Members
 tables field fields = map fields_of (items field fields)
 
 -- ---- the job
@@ -78,7 +78,7 @@ abbrev pub is_version_two : Members → Bool
 is_version_two fields = int_eq (integer Version fields) (pos 2)
 
 -- the field that tells the tolerated groups
-abbrev pub adversary_field : Members → Field
+abbrev pub adversary_field : Members → JobField
 adversary_field fields = if is_version_two fields then Tolerated else Formula
 
 -- how the products of a session are made: they are direct where no field tells

@@ -5,15 +5,15 @@ use Rattle.std.specs.List.{list_all}
 use Rattle.std.specs.Str.{bytes_eq}
 use Rattle.toml_fields.specs.declared.kind.Kind.{Kind}
 use Rattle.toml_fields.specs.declared.kind.Kind.TheVariants.{Integer, Text, Texts, TextLists, Tables}
-use Rattle.job_file.specs.declared.field.Field.{Field}
-use Rattle.job_file.specs.declared.field.Field.TheVariants.{Version, RingBits, Parties, Formula, Tolerated, Hosts, Port, Frames, Views, Session, Circuit, Layout, Products, Owners, Readers}
+use Rattle.job_file.specs.declared.field.JobField.{JobField}
+use Rattle.job_file.specs.declared.field.JobField.TheVariants.{Version, RingBits, Parties, Formula, Tolerated, Hosts, Port, Frames, Views, Session, Circuit, Layout, Products, Owners, Readers}
 use Rattle.job_file.specs.declared.layout.SessionLayout.{SessionLayout}
 use Rattle.job_file.specs.declared.layout.SessionLayout.TheVariants.{Gates, Expressions}
 use Rattle.job_file.specs.declared.limits.TheConstants.{LONGEST_FILE_NAME, LONGEST_HOST}
 use Rattle.circuit_model.specs.declared.layout.CircuitLayout.TheVariants.{Bristol, Ring}
 
 -- how the file names a field
-unfoldable pub field_text : Field → List ℕ
+unfoldable pub field_text : JobField → List ℕ
 field_text Version = codes "version"
 field_text RingBits = codes "ring_bits"
 field_text Parties = codes "parties"
@@ -30,7 +30,7 @@ field_text Products = codes "products"
 field_text Owners = codes "owners"
 field_text Readers = codes "readers"
 
-unfoldable pub field_kind : Field → Kind
+unfoldable pub field_kind : JobField → Kind
 field_kind Version = Integer
 field_kind RingBits = Integer
 field_kind Parties = Texts
@@ -48,13 +48,13 @@ field_kind Owners = Texts
 field_kind Readers = TextLists
 
 -- the fields of the top table, in a file of version 2 or not, of which one tells the tolerated groups
-abbrev pub top_fields : Bool → Field → List Field
+abbrev pub top_fields : Bool → JobField → List JobField
 top_fields version_two adversary =
     Version ∷ RingBits ∷ Parties ∷ adversary ∷ Hosts ∷ Port ∷ Session
     ∷ (if version_two then Frames ∷ Views ∷ [] else [])
 
 -- the fields of a session, in a file of version 2 or not
-abbrev pub session_fields : Bool → List Field
+abbrev pub session_fields : Bool → List JobField
 session_fields version_two = Circuit ∷ Layout ∷ Owners ∷ Readers ∷ (if version_two then Products ∷ [] else [])
 
 -- a letter, a digit, `.`, `_` or `-`

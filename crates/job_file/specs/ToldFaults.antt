@@ -4,7 +4,7 @@ use Rattle.fault_table.specs.Tables.{Keys, Entry, fault, in_session, at_place, N
 use Rattle.party_names.specs.declared.names.NamesFault.{NamesFault}
 use Rattle.party_names.specs.declared.names.NamesFault.TheVariants.{BadName, TwiceNamed, PartyCount, Memory as NoMemory}
 use Rattle.job_file.specs.Names.{field_text}
-use Rattle.job_file.specs.declared.field.Field.{Field}
+use Rattle.job_file.specs.declared.field.JobField.{JobField}
 use Rattle.job_file.specs.declared.fault.JobFault.{JobFault}
 use Rattle.job_file.specs.declared.fault.JobFault.TheVariants.{NotToml, Version, Missing, Unknown, WrongKind, BadRing, Names, SessionCount, BadFileName, BadLayout, BadProducts, BadOwner, BadCarry, BadReader, BadHost, BadPort, BadFrames, BadViews, BadTolerated, TooManyTolerated, Memory}
 
@@ -14,7 +14,7 @@ fault_part (Names f) = codes "names"
 fault_part _ = codes "job"
 
 -- the field that is missing, or of another kind
-abbrev pub of_field : Field → Keys
+abbrev pub of_field : JobField → Keys
 of_field f = (codes "field", Text (field_text f)) ∷ []
 
 -- an output value, or a list of names

@@ -11,7 +11,7 @@ ghost use Rattle.list_laws.specs.Checks.{◌answers◌};
 ghost use Rattle.job_file.specs.declared.fault.JobFault.TheVariants.{Unknown};
 
 use crate::fault::JobFault;
-use crate::field::Field;
+use crate::field::JobField;
 use crate::products::Products;
 use crate::texts::{are_own, are_short, products_named};
 use party_names::NameText;
@@ -27,13 +27,13 @@ pub fn check(failed: bool, fault: JobFault) -> Result<(), JobFault>
 }
 
 /// Whether the table has the field.
-pub fn is_there(table: &Table, field: Field) -> bool
+pub fn is_there(table: &Table, field: JobField) -> bool
     ensures { result ≡ is_there field (table_view table.now) }
 {
     has_field(table, field.text())
 }
 
-fn is_of_other_kind(table: &Table, field: Field) -> bool
+fn is_of_other_kind(table: &Table, field: JobField) -> bool
     ensures { result ≡ is_of_other_kind field (table_view table.now) }
 {
     is_misfit(table, field.text(), field.kind())
@@ -41,7 +41,7 @@ fn is_of_other_kind(table: &Table, field: Field) -> bool
 
 /// Checks a field that must be there.
 #[tactic(auto, unfolding(crate::specs::Faults::required_fault))]
-pub fn check_required(table: &Table, session: Option<u32>, field: Field) -> Result<(), JobFault>
+pub fn check_required(table: &Table, session: Option<u32>, field: JobField) -> Result<(), JobFault>
     ensures { TellsFault result (required_fault session field (table_view table.now)) }
 {
     check(
@@ -56,7 +56,7 @@ pub fn check_required(table: &Table, session: Option<u32>, field: Field) -> Resu
 
 /// Checks a field that may be missing.
 #[tactic(auto, unfolding(crate::specs::Faults::optional_fault))]
-pub fn check_optional(table: &Table, session: Option<u32>, field: Field) -> Result<(), JobFault>
+pub fn check_optional(table: &Table, session: Option<u32>, field: JobField) -> Result<(), JobFault>
     ensures { TellsFault result (optional_fault session field (table_view table.now)) }
 {
     check(
@@ -66,7 +66,7 @@ pub fn check_optional(table: &Table, session: Option<u32>, field: Field) -> Resu
 }
 
 /// Checks a field of the top table that may be missing, unless the job is read for a node.
-pub fn check_for_node(table: &Table, node: bool, field: Field) -> Result<(), JobFault>
+pub fn check_for_node(table: &Table, node: bool, field: JobField) -> Result<(), JobFault>
     ensures { TellsFault result (node_fault node field (table_view table.now)) }
 {
     if node {
@@ -102,17 +102,17 @@ fn check_known(
 pub fn is_version_two(table: &Table) -> bool
     ensures { result ≡ is_version_two (table_view table.now) }
 {
-    integer_at(table, Field::Version.text()) == 2
+    integer_at(table, JobField::Version.text()) == 2
 }
 
 /// The field that tells the tolerated groups.
-pub fn adversary_field(table: &Table) -> Field
+pub fn adversary_field(table: &Table) -> JobField
     ensures { result ≡ adversary_field (table_view table.now) }
 {
     if is_version_two(table) {
-        Field::Tolerated
+        JobField::Tolerated
     } else {
-        Field::Formula
+        JobField::Formula
     }
 }
 
@@ -121,8 +121,8 @@ pub fn adversary_field(table: &Table) -> Field
 pub fn products_in(table: &Table) -> Option<Products>
     ensures { result ≡ products_in (table_view table.now) }
 {
-    if is_there(table, Field::Products) {
-        products_named(text_at(table, Field::Products.text()))
+    if is_there(table, JobField::Products) {
+        products_named(text_at(table, JobField::Products.text()))
     } else {
         Some(Products::Direct)
     }
@@ -133,8 +133,8 @@ pub fn products_in(table: &Table) -> Option<Products>
 pub fn short_frames_in(table: &Table) -> Option<bool>
     ensures { result ≡ short_frames_in (table_view table.now) }
 {
-    if is_there(table, Field::Frames) {
-        are_short(text_at(table, Field::Frames.text()))
+    if is_there(table, JobField::Frames) {
+        are_short(text_at(table, JobField::Frames.text()))
     } else {
         Some(false)
     }
@@ -145,8 +145,8 @@ pub fn short_frames_in(table: &Table) -> Option<bool>
 pub fn own_views_in(table: &Table) -> Option<bool>
     ensures { result ≡ own_views_in (table_view table.now) }
 {
-    if is_there(table, Field::Views) {
-        are_own(text_at(table, Field::Views.text()))
+    if is_there(table, JobField::Views) {
+        are_own(text_at(table, JobField::Views.text()))
     } else {
         Some(false)
     }
@@ -160,15 +160,15 @@ pub fn check_top_known(alloc: Global, table: &Table) -> Result<(), JobFault>
         (unknown_fault None (top_fields (is_version_two fields) (adversary_field fields)) fields) }
 {
     let known = [
-        Field::Version.text(),
-        Field::RingBits.text(),
-        Field::Parties.text(),
+        JobField::Version.text(),
+        JobField::RingBits.text(),
+        JobField::Parties.text(),
         adversary_field(table).text(),
-        Field::Hosts.text(),
-        Field::Port.text(),
-        Field::Session.text(),
-        Field::Frames.text(),
-        Field::Views.text(),
+        JobField::Hosts.text(),
+        JobField::Port.text(),
+        JobField::Session.text(),
+        JobField::Frames.text(),
+        JobField::Views.text(),
     ];
     if is_version_two(table) {
         check_known(alloc, table, None, &known)
@@ -189,11 +189,11 @@ pub fn check_session_known(
         (unknown_fault (Some session) (session_fields version_two) (table_view table.now)) }
 {
     let fields = [
-        Field::Circuit.text(),
-        Field::Layout.text(),
-        Field::Owners.text(),
-        Field::Readers.text(),
-        Field::Products.text(),
+        JobField::Circuit.text(),
+        JobField::Layout.text(),
+        JobField::Owners.text(),
+        JobField::Readers.text(),
+        JobField::Products.text(),
     ];
     if version_two {
         check_known(alloc, table, Some(session), &fields)

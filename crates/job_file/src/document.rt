@@ -7,12 +7,12 @@ ghost use Rattle.job_file.specs.Forms.{is_version_two, adversary_field, job_form
 ghost use Rattle.job_file.specs.Jobs.{job_view, IsJob};
 ghost use Rattle.list_laws.specs.Checks.{first_fault};
 ghost use Rattle.job_file.specs.Faults.{version_fault, unknown_fault, fields_fault, ring_fault, adversary_fault, count_fault, sessions_fault, hosts_fault, port_fault, frames_fault, views_fault, job_fault, job_in};
-ghost use Rattle.job_file.specs.declared.field.Field.TheVariants.{Parties, Session};
+ghost use Rattle.job_file.specs.declared.field.JobField.TheVariants.{Parties, Session};
 ghost use Rattle.job_file.specs.declared.fault.JobFault.TheVariants.{Memory};
 
 use crate::check::{check_top_known, is_version_two};
 use crate::fault::JobFault;
-use crate::field::Field;
+use crate::field::JobField;
 use crate::job::Job;
 use crate::session::check_sessions;
 use crate::top::{
@@ -54,7 +54,7 @@ fn check_rest(alloc: Global, table: &Table, names: &Names) -> Result<(), JobFaul
         ∷ [])) }
 {
     check_adversary(table, names)?;
-    let sessions = items_at(table, Field::Session.text());
+    let sessions = items_at(table, JobField::Session.text());
     check_count(sessions.len())?;
     check_sessions(alloc, sessions, is_version_two(table), names)?;
     check_hosts(table, names.len())?;

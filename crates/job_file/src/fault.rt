@@ -2,7 +2,7 @@
 ghost use Rattle.std.specs.Prelude.{◌≡◌};
 ghost use Rattle.job_file.specs.declared.fault.JobFault.TheVariants.{Memory};
 
-use crate::field::Field;
+use crate::field::JobField;
 use party_names::{NameText, NamesFault};
 use std::alloc::AllocError;
 
@@ -19,7 +19,7 @@ pub enum JobFault {
     /// A field is missing.
     Missing {
         session: Option<u32>,
-        field: Field,
+        field: JobField,
     },
     /// A field that a job does not have; the least by bytes.
     Unknown {
@@ -29,7 +29,7 @@ pub enum JobFault {
     /// A field of another kind.
     WrongKind {
         session: Option<u32>,
-        field: Field,
+        field: JobField,
     },
     /// The bits of the ring are not 1 to 64.
     BadRing {

@@ -6,7 +6,7 @@ use toml_fields::Kind;
 
 /// A field of the top table (the first ten) or of a session.
 #[derive(Clone, Copy, Debug, PartialEq, Eq)]
-pub enum Field {
+pub enum JobField {
     Version,
     RingBits,
     Parties,
@@ -24,28 +24,28 @@ pub enum Field {
     Readers,
 }
 
-impl Field {
+impl JobField {
     /// How the file names the field.
     #[tactic(auto, unfolding(crate::specs::Names::field_text))]
     pub fn text(self) -> &'static str
         ensures { result.now ≡ field_text self }
     {
         match self {
-            Field::Version => "version",
-            Field::RingBits => "ring_bits",
-            Field::Parties => "parties",
-            Field::Formula => "formula",
-            Field::Tolerated => "tolerated",
-            Field::Hosts => "hosts",
-            Field::Port => "port",
-            Field::Frames => "frames",
-            Field::Views => "views",
-            Field::Session => "session",
-            Field::Circuit => "circuit",
-            Field::Layout => "layout",
-            Field::Products => "products",
-            Field::Owners => "owners",
-            Field::Readers => "readers",
+            JobField::Version => "version",
+            JobField::RingBits => "ring_bits",
+            JobField::Parties => "parties",
+            JobField::Formula => "formula",
+            JobField::Tolerated => "tolerated",
+            JobField::Hosts => "hosts",
+            JobField::Port => "port",
+            JobField::Frames => "frames",
+            JobField::Views => "views",
+            JobField::Session => "session",
+            JobField::Circuit => "circuit",
+            JobField::Layout => "layout",
+            JobField::Products => "products",
+            JobField::Owners => "owners",
+            JobField::Readers => "readers",
         }
     }
 
@@ -55,16 +55,16 @@ impl Field {
         ensures { result ≡ field_kind self }
     {
         match self {
-            Field::Version | Field::RingBits | Field::Port => Kind::Integer,
-            Field::Formula
-            | Field::Frames
-            | Field::Views
-            | Field::Circuit
-            | Field::Layout
-            | Field::Products => Kind::Text,
-            Field::Parties | Field::Hosts | Field::Owners => Kind::Texts,
-            Field::Tolerated | Field::Readers => Kind::TextLists,
-            Field::Session => Kind::Tables,
+            JobField::Version | JobField::RingBits | JobField::Port => Kind::Integer,
+            JobField::Formula
+            | JobField::Frames
+            | JobField::Views
+            | JobField::Circuit
+            | JobField::Layout
+            | JobField::Products => Kind::Text,
+            JobField::Parties | JobField::Hosts | JobField::Owners => Kind::Texts,
+            JobField::Tolerated | JobField::Readers => Kind::TextLists,
+            JobField::Session => Kind::Tables,
         }
     }
 }

@@ -19,7 +19,7 @@ mod values;
 
 pub use document::read_job;
 pub use fault::JobFault;
-pub use field::Field;
+pub use field::JobField;
 pub use job::{Adversary, Job, JobSession};
 pub use layout::SessionLayout;
 pub use limits::{LAST_PORT, LONGEST_FILE_NAME, LONGEST_HOST, MOST_TOLERATED};

@@ -10,7 +10,7 @@ ghost use Rattle.job_file.specs.declared.fault.JobFault.TheVariants.{BadReader};
 
 use crate::check::{check, check_optional, check_required, check_session_known, products_in};
 use crate::fault::JobFault;
-use crate::field::Field;
+use crate::field::JobField;
 use crate::owner::{is_carry, owner_in};
 use crate::parties::bad_in_lists;
 use crate::texts::{is_file_name, layout_of};
@@ -30,11 +30,11 @@ fn check_fields(
     ensures { TellsOrMemory result (session_fields_fault version_two session (table_view table.now)) }
 {
     check_session_known(alloc, table, version_two, session)?;
-    check_required(table, Some(session), Field::Circuit)?;
-    check_required(table, Some(session), Field::Layout)?;
-    check_optional(table, Some(session), Field::Products)?;
-    check_required(table, Some(session), Field::Owners)?;
-    check_required(table, Some(session), Field::Readers)?;
+    check_required(table, Some(session), JobField::Circuit)?;
+    check_required(table, Some(session), JobField::Layout)?;
+    check_optional(table, Some(session), JobField::Products)?;
+    check_required(table, Some(session), JobField::Owners)?;
+    check_required(table, Some(session), JobField::Readers)?;
     Ok(())
 }
 
@@ -47,21 +47,21 @@ fn check_values(
 ) -> Result<(), JobFault>
     ensures { TellsOrMemory result (session_values_fault version_two names.now session (table_view table.now)) }
 {
-    let circuit = text_at(table, Field::Circuit.text());
+    let circuit = text_at(table, JobField::Circuit.text());
     check(!is_file_name(circuit), JobFault::BadFileName { session })?;
-    let layout = layout_of(version_two, text_at(table, Field::Layout.text()));
+    let layout = layout_of(version_two, text_at(table, JobField::Layout.text()));
     check(layout.is_none(), JobFault::BadLayout { session })?;
     check(
         products_in(table).is_none(),
         JobFault::BadProducts { session },
     )?;
     check_owners(
-        items_at(table, Field::Owners.text()),
+        items_at(table, JobField::Owners.text()),
         version_two,
         session,
         names,
     )?;
-    check_readers(items_at(table, Field::Readers.text()), session, names)
+    check_readers(items_at(table, JobField::Readers.text()), session, names)
 }
 
 fn check_owners(

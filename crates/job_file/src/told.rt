@@ -4,7 +4,7 @@ ghost use Rattle.fault_table.specs.Tables.{fault, in_session, at_place, Name};
 ghost use Rattle.job_file.specs.ToldFaults.{fault_part, of_field, of_count, told_job_fault, told_names_fault};
 
 use crate::fault::JobFault;
-use crate::field::Field;
+use crate::field::JobField;
 use fault_table::Entry;
 use party_names::NamesFault;
 
@@ -77,7 +77,12 @@ fn of_count(number: u32, name: &'static str, count: u64) -> Entry<'static>
     Entry::new(number, name).with_number("count", count)
 }
 
-fn of_field(number: u32, name: &'static str, session: Option<u32>, field: Field) -> Entry<'static>
+fn of_field(
+    number: u32,
+    name: &'static str,
+    session: Option<u32>,
+    field: JobField,
+) -> Entry<'static>
     ensures { result ≡ fault number name.now (in_session session ++ of_field field) }
 {
     Entry::in_session(number, name, session).with_text("field", field.text().as_bytes())

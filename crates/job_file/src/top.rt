@@ -8,7 +8,7 @@ ghost use Rattle.job_file.specs.Names.{is_host};
 ghost use Rattle.job_file.specs.Forms.{texts};
 ghost use Rattle.list_laws.specs.Checks.{◌answers◌};
 ghost use Rattle.job_file.specs.Faults.{version_fault, fields_fault, ring_fault, parties_fault, groups_fault, adversary_fault, count_fault, hosts_fault, port_fault, frames_fault, views_fault, is_there};
-ghost use Rattle.job_file.specs.declared.field.Field.TheVariants.{Parties, Hosts};
+ghost use Rattle.job_file.specs.declared.field.JobField.TheVariants.{Parties, Hosts};
 ghost use Rattle.job_file.specs.declared.fault.JobFault.TheVariants.{Memory, BadHost};
 
 use crate::check::{
@@ -16,7 +16,7 @@ use crate::check::{
     is_version_two, own_views_in, short_frames_in,
 };
 use crate::fault::JobFault;
-use crate::field::Field;
+use crate::field::JobField;
 use crate::limits::{LAST_PORT, MOST_TOLERATED};
 use crate::parties::bad_in_lists;
 use crate::texts::is_host;
@@ -31,8 +31,8 @@ use toml_fields::{integer_at, items_at, text_of, texts_at};
 pub fn check_version(table: &Table) -> Result<(), JobFault>
     ensures { TellsFault result (version_fault (table_view table.now)) }
 {
-    check_required(table, None, Field::Version)?;
-    let found = integer_at(table, Field::Version.text());
+    check_required(table, None, JobField::Version)?;
+    let found = integer_at(table, JobField::Version.text());
     check(found < 1 || found > 2, JobFault::Version { found })
 }
 
@@ -41,14 +41,14 @@ pub fn check_version(table: &Table) -> Result<(), JobFault>
 pub fn check_fields(table: &Table, node: bool) -> Result<(), JobFault>
     ensures { TellsFault result (fields_fault node (table_view table.now)) }
 {
-    check_required(table, None, Field::RingBits)?;
-    check_required(table, None, Field::Parties)?;
+    check_required(table, None, JobField::RingBits)?;
+    check_required(table, None, JobField::Parties)?;
     check_required(table, None, adversary_field(table))?;
-    check_for_node(table, node, Field::Hosts)?;
-    check_for_node(table, node, Field::Port)?;
-    check_optional(table, None, Field::Frames)?;
-    check_optional(table, None, Field::Views)?;
-    check_required(table, None, Field::Session)
+    check_for_node(table, node, JobField::Hosts)?;
+    check_for_node(table, node, JobField::Port)?;
+    check_optional(table, None, JobField::Frames)?;
+    check_optional(table, None, JobField::Views)?;
+    check_required(table, None, JobField::Session)
 }
 
 /// Checks the number of ring bits, 1 to 64.
@@ -56,7 +56,7 @@ pub fn check_fields(table: &Table, node: bool) -> Result<(), JobFault>
 pub fn check_ring(table: &Table) -> Result<(), JobFault>
     ensures { TellsFault result (ring_fault (table_view table.now)) }
 {
-    let bits = integer_at(table, Field::RingBits.text());
+    let bits = integer_at(table, JobField::RingBits.text());
     check(bits < 1 || bits > 64, JobFault::BadRing { bits })
 }
 
@@ -66,7 +66,7 @@ pub fn read_parties(alloc: Global, table: &Table) -> Result<Names, JobFault>
         (λ names. (names ≡ texts Parties (table_view table.now)) × (parties_fault (table_view table.now) ≡ None))
         (λ fault. fault ≢ Memory → parties_fault (table_view table.now) ≡ Some fault) }
 {
-    let texts = texts_at(alloc, table, Field::Parties.text())?;
+    let texts = texts_at(alloc, table, JobField::Parties.text())?;
     match read_names(alloc, &texts) {
         Ok(names) => Ok(names),
         Err(fault) => Err(of_names(fault)),
@@ -89,7 +89,7 @@ pub fn check_adversary(table: &Table, names: &Names) -> Result<(), JobFault>
     ensures { TellsFault result (adversary_fault (table_view table.now)) }
 {
     if is_version_two(table) {
-        check_tolerated(items_at(table, Field::Tolerated.text()), names)
+        check_tolerated(items_at(table, JobField::Tolerated.text()), names)
     } else {
         Ok(())
     }
@@ -133,7 +133,7 @@ pub fn check_hosts(table: &Table, parties: u32) -> Result<(), JobFault>
     requires { parties ≡ length (texts Parties (table_view table.now)) }
     ensures { TellsFault result (hosts_fault (table_view table.now)) }
 {
-    let hosts = items_at(table, Field::Hosts.text());
+    let hosts = items_at(table, JobField::Hosts.text());
     check_host_count(table, hosts.len(), parties as usize)?;
     check_host_texts(hosts)
 }
@@ -143,7 +143,7 @@ fn check_host_count(table: &Table, hosts: usize, parties: usize) -> Result<(), J
         (min hosts parties)) }
 {
     check(
-        is_there(table, Field::Hosts) && hosts != parties,
+        is_there(table, JobField::Hosts) && hosts != parties,
         JobFault::BadHost {
             at: hosts.min(parties) as u64,
         },
@@ -171,9 +171,9 @@ fn bad_host(hosts: &[Value]) -> Option<usize>
 pub fn check_port(table: &Table) -> Result<(), JobFault>
     ensures { TellsFault result (port_fault (table_view table.now)) }
 {
-    let port = integer_at(table, Field::Port.text());
+    let port = integer_at(table, JobField::Port.text());
     check(
-        is_there(table, Field::Port) && (port < 1 || port > i64::from(LAST_PORT)),
+        is_there(table, JobField::Port) && (port < 1 || port > i64::from(LAST_PORT)),
         JobFault::BadPort { port },
     )
 }

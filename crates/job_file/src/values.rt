@@ -7,10 +7,10 @@ ghost use Rattle.job_file.specs.Forms.{party_of, owner_of, mask_of, session_form
 ghost use Rattle.job_file.specs.Owners.{IsOwner};
 ghost use Rattle.job_file.specs.Faults.{ring_fault, port_fault};
 ghost use Rattle.job_file.specs.Jobs.{session_view, adversary_view, job_view, HasParties, IsSession, AreSessions, IsJob};
-ghost use Rattle.job_file.specs.declared.field.Field.TheVariants.{RingBits, Parties, Port, Session};
+ghost use Rattle.job_file.specs.declared.field.JobField.TheVariants.{RingBits, Parties, Port, Session};
 
 use crate::check::{is_there, is_version_two, own_views_in, products_in, short_frames_in};
-use crate::field::Field;
+use crate::field::JobField;
 use crate::job::{Adversary, Job, JobSession};
 use crate::layout::SessionLayout;
 use crate::owner::{JobOwner, owner_in};
@@ -115,14 +115,14 @@ fn session_of(
         ≡ session_form version_two names.now number (table_view table.now)) }
     ensures parties { IfOk result (IsSession (length names.now) number) }
 {
-    let circuit = copy_of(alloc, text_at(table, Field::Circuit.text()))?;
-    let layout = layout_of(version_two, text_at(table, Field::Layout.text())).unwrap_or(
+    let circuit = copy_of(alloc, text_at(table, JobField::Circuit.text()))?;
+    let layout = layout_of(version_two, text_at(table, JobField::Layout.text())).unwrap_or(
         SessionLayout::Gates(CircuitLayout::Ring),
     );
     let products = products_in(table).unwrap_or(Products::Direct);
-    let owners = items_at(table, Field::Owners.text());
+    let owners = items_at(table, JobField::Owners.text());
     let owners = owners_of(alloc, owners, version_two, number, names)?;
-    let readers = groups_of(alloc, items_at(table, Field::Readers.text()), names)?;
+    let readers = groups_of(alloc, items_at(table, JobField::Readers.text()), names)?;
     Ok(JobSession {
         circuit,
         layout,
@@ -171,7 +171,7 @@ fn ring_of(table: &Table) -> Ring
     ensures some { 0 < result }
     ensures few { result ≤ 64 }
 {
-    let bits = integer_at(table, Field::RingBits.text());
+    let bits = integer_at(table, JobField::RingBits.text());
     Ring::new(bits as u32).unwrap()
 }
 
@@ -180,8 +180,8 @@ fn port_of(table: &Table) -> u16
     requires { port_fault (table_view table.now) ≡ None }
     ensures { result ≡ nat_abs (integer Port (table_view table.now)) }
 {
-    if is_there(table, Field::Port) {
-        integer_at(table, Field::Port.text()) as u16
+    if is_there(table, JobField::Port) {
+        integer_at(table, JobField::Port.text()) as u16
     } else {
         0
     }
@@ -195,10 +195,10 @@ fn adversary_of(alloc: Global, table: &Table, names: &Names) -> Result<Adversary
     ensures parties { IfOk result (HasParties (length names.now)) }
 {
     if is_version_two(table) {
-        let groups = groups_of(alloc, items_at(table, Field::Tolerated.text()), names)?;
+        let groups = groups_of(alloc, items_at(table, JobField::Tolerated.text()), names)?;
         return Ok(Adversary::Tolerated(groups));
     }
-    let formula = copy_of(alloc, text_at(table, Field::Formula.text()))?;
+    let formula = copy_of(alloc, text_at(table, JobField::Formula.text()))?;
     Ok(Adversary::Formula(formula))
 }
 
@@ -215,11 +215,11 @@ pub fn job_of(alloc: Global, table: &Table, names: Names) -> Result<Job, AllocEr
 {
     let ring = ring_of(table);
     let adversary = adversary_of(alloc, table, &names)?;
-    let hosts = hosts_of(alloc, items_at(table, Field::Hosts.text()))?;
+    let hosts = hosts_of(alloc, items_at(table, JobField::Hosts.text()))?;
     let port = port_of(table);
     let short_frames = short_frames_in(table).unwrap_or(false);
     let own_views = own_views_in(table).unwrap_or(false);
-    let tables = items_at(table, Field::Session.text());
+    let tables = items_at(table, JobField::Session.text());
     let sessions = sessions_of(alloc, tables, is_version_two(table), &names)?;
     let _ = names.len();
     Ok(Job {

@@ -7,8 +7,8 @@ use Rattle.std.proofs.lemmas.Map.Text.{is_eq-slice_cmp}
 use Rattle.std.proofs.lemmas.Slice.Eq.{bytes_eq-Decides}
 use Rattle.toml.specs.Data.{Data, Members, no_members, member, depth, get_member, is_before, members_depth, members_have_valid_dates, members_are_sorted}
 use Rattle.toml_fields.specs.Keys.{is_known, lesser, least_unknown}
-use Rattle.job_file.specs.declared.field.Field.{Field}
-use Rattle.job_file.specs.declared.field.Field.TheVariants.{Version, RingBits, Parties, Formula, Tolerated, Hosts, Port, Frames, Views, Session, Circuit, Layout, Products, Owners, Readers}
+use Rattle.job_file.specs.declared.field.JobField.{JobField}
+use Rattle.job_file.specs.declared.field.JobField.TheVariants.{Version, RingBits, Parties, Formula, Tolerated, Hosts, Port, Frames, Views, Session, Circuit, Layout, Products, Owners, Readers}
 use Rattle.job_file.specs.Names.{field_text}
 use Rattle.job_laws.specs.Documents.{with_field}
 use Rattle.job_laws.proofs.DocumentShapes.{IsPlain, max_below}
@@ -25,21 +25,21 @@ same Less a b e = cc
 same Equal a b e = refl
 same Greater a b e = cc
 
-abbrev are_same : Field → Field → Bool
+abbrev are_same : JobField → JobField → Bool
 are_same f g = is_eq (slice_cmp nat_cmp (field_text f) (field_text g))
 
 -- the value of a field
-abbrev pub value_of : Field → Members → Option Data
+abbrev pub value_of : JobField → Members → Option Data
 value_of field ms = get_member (field_text field) ms
 
-past : (wanted field : Field) (o : Option Data) (rest : Members) → are_same wanted field ≡ false → value_of wanted (with_field field o rest) ≡ value_of wanted rest
+past : (wanted field : JobField) (o : Option Data) (rest : Members) → are_same wanted field ≡ false → value_of wanted (with_field field o rest) ≡ value_of wanted rest
 past wanted field None rest e = refl
 past wanted field (Some d) rest e = other (slice_cmp nat_cmp (field_text wanted) (field_text field)) (value_of wanted rest) (Some d) e
 
-here : (field : Field) (d : Data) (rest : Members) → are_same field field ≡ true → value_of field (with_field field (Some d) rest) ≡ Some d
+here : (field : JobField) (d : Data) (rest : Members) → are_same field field ≡ true → value_of field (with_field field (Some d) rest) ≡ Some d
 here field d rest e = same (slice_cmp nat_cmp (field_text field) (field_text field)) (value_of field rest) (Some d) e
 
-here_or : (field : Field) (o : Option Data) (rest : Members) → are_same field field ≡ true → value_of field rest ≡ None → value_of field (with_field field o rest) ≡ o
+here_or : (field : JobField) (o : Option Data) (rest : Members) → are_same field field ≡ true → value_of field rest ≡ None → value_of field (with_field field o rest) ≡ o
 here_or field None rest e none = none
 here_or field (Some d) rest e none = here field d rest e
 
@@ -50,12 +50,12 @@ pub record AreFields (n : ℕ) (ms : Members) : Type 0 where
   pub dates : members_have_valid_dates ms ≡ true
   pub sorted : members_are_sorted ms ≡ true
 
-before : (first field : Field) (o : Option Data) (rest : Members) → is_lt (slice_cmp nat_cmp (field_text first) (field_text field)) ≡ true → is_before (field_text first) rest ≡ true
+before : (first field : JobField) (o : Option Data) (rest : Members) → is_lt (slice_cmp nat_cmp (field_text first) (field_text field)) ≡ true → is_before (field_text first) rest ≡ true
     → is_before (field_text first) (with_field field o rest) ≡ true
 before first field None rest e h = h
 before first field (Some d) rest e h = e
 
-one_more : (n : ℕ) (field : Field) (o : Option Data) (rest : Members) → IfSome o (IsPlain n) → is_before (field_text field) rest ≡ true → AreFields n rest → AreFields n (with_field field o rest)
+one_more : (n : ℕ) (field : JobField) (o : Option Data) (rest : Members) → IfSome o (IsPlain n) → is_before (field_text field) rest ≡ true → AreFields n rest → AreFields n (with_field field o rest)
 one_more n field None rest plain first are = are
 one_more n field (Some d) rest plain first are = record {
   deep = max_below (depth d) (members_depth rest) n plain.deep are.deep;
@@ -68,12 +68,12 @@ no_more n = record { deep = omega arith; dates = refl; sorted = refl }
 
 -- ---- known fields
 
-known : (names : List (List ℕ)) (field : Field) (o : Option Data) (rest : Members) → is_known names (field_text field) ≡ true → least_unknown names rest ≡ None → least_unknown names (with_field field o rest) ≡ None
+known : (names : List (List ℕ)) (field : JobField) (o : Option Data) (rest : Members) → is_known names (field_text field) ≡ true → least_unknown names rest ≡ None → least_unknown names (with_field field o rest) ≡ None
 unfolding least_unknown
 known names field None rest e none = none
 known names field (Some d) rest e none = ap (λ b. cond b (least_unknown names rest) (Some (lesser (field_text field) (least_unknown names rest)))) e ∙ none
 
-known_if : (names : List (List ℕ)) (field : Field) (o : Option Data) (rest : Members) → IfSome o (λ d. is_known names (field_text field) ≡ true) → least_unknown names rest ≡ None → least_unknown names (with_field field o rest) ≡ None
+known_if : (names : List (List ℕ)) (field : JobField) (o : Option Data) (rest : Members) → IfSome o (λ d. is_known names (field_text field) ≡ true) → least_unknown names rest ≡ None → least_unknown names (with_field field o rest) ≡ None
 known_if names field None rest e none = none
 known_if names field (Some d) rest e none = known names field (Some d) rest e none
 

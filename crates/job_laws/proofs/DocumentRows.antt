@@ -20,8 +20,8 @@ use Rattle.list_laws.specs.Checks.{◌answers◌, or_fault}
 use Rattle.party_names.specs.Names.{names_fault, AreNames}
 use Rattle.party_names.proofs.NameFaults.{no_fault_from}
 use Rattle.circuit_model.specs.declared.layout.CircuitLayout.TheVariants.{Bristol, Ring}
-use Rattle.job_file.specs.declared.field.Field.{Field}
-use Rattle.job_file.specs.declared.field.Field.TheVariants.{Version, RingBits, Parties, Formula, Tolerated, Hosts, Port, Frames, Views, Session, Circuit, Layout, Products as ProductsField, Owners, Readers}
+use Rattle.job_file.specs.declared.field.JobField.{JobField}
+use Rattle.job_file.specs.declared.field.JobField.TheVariants.{Version, RingBits, Parties, Formula, Tolerated, Hosts, Port, Frames, Views, Session, Circuit, Layout, Products as ProductsField, Owners, Readers}
 use Rattle.job_file.specs.declared.fault.JobFault.{JobFault}
 use Rattle.job_file.specs.declared.fault.JobFault.TheVariants.{NotToml, Unknown}
 use Rattle.job_file.specs.declared.layout.SessionLayout.{SessionLayout}
@@ -53,26 +53,26 @@ no_map {A} f {o} e = ap (option_map f) e
 
 -- ---- what fields give
 
-integer_is : (field : Field) (ms : Members) (z : ℤ) → value_of field ms ≡ Some (integer z) → forms.integer field ms ≡ z
+integer_is : (field : JobField) (ms : Members) (z : ℤ) → value_of field ms ≡ Some (integer z) → forms.integer field ms ≡ z
 unfolding integer_at integer_of
 integer_is field ms z at = ap (λ o. option_map_or integer_of o (pos 0)) at
 
-text_is : (field : Field) (ms : Members) (text : List ℕ) → value_of field ms ≡ Some (string text) → forms.text field ms ≡ text
+text_is : (field : JobField) (ms : Members) (text : List ℕ) → value_of field ms ≡ Some (string text) → forms.text field ms ≡ text
 unfolding text_at text_of
 text_is field ms text at = ap (λ o. option_map_or text_of o []) at
 
-items_is : (field : Field) (ms : Members) (d : Data) → value_of field ms ≡ Some d → forms.items field ms ≡ items_of d
+items_is : (field : JobField) (ms : Members) (d : Data) → value_of field ms ≡ Some d → forms.items field ms ≡ items_of d
 unfolding items_at
 items_is field ms d at = ap (λ o. option_map_or items_of o []) at
 
-texts_are : (field : Field) (ms : Members) (texts : List (List ℕ)) → value_of field ms ≡ Some (texts_data texts) → forms.texts field ms ≡ texts
+texts_are : (field : JobField) (ms : Members) (texts : List (List ℕ)) → value_of field ms ≡ Some (texts_data texts) → forms.texts field ms ≡ texts
 unfolding texts_at
 texts_are field ms texts at = ap (map text_of) (items_is field ms (texts_data texts) at) ∙ texts_listed texts
 
-lists_are : (field : Field) (ms : Members) (names : List (List ℕ)) (masks : List ℕ) → value_of field ms ≡ Some (groups_data names masks) → forms.lists field ms ≡ map (member_names names) masks
+lists_are : (field : JobField) (ms : Members) (names : List (List ℕ)) (masks : List ℕ) → value_of field ms ≡ Some (groups_data names masks) → forms.lists field ms ≡ map (member_names names) masks
 lists_are field ms names masks at = ap (map texts_of) (items_is field ms (groups_data names masks) at) ∙ groups_back names masks
 
-tables_are : (field : Field) (ms : Members) (names : List (List ℕ)) (sessions : List SessionForm) → value_of field ms ≡ Some (sessions_data names sessions) → forms.tables field ms ≡ map (session_fields_of names) sessions
+tables_are : (field : JobField) (ms : Members) (names : List (List ℕ)) (sessions : List SessionForm) → value_of field ms ≡ Some (sessions_data names sessions) → forms.tables field ms ≡ map (session_fields_of names) sessions
 tables_are field ms names sessions at = ap (map fields_of) (items_is field ms (sessions_data names sessions) at) ∙ sessions_back names sessions
 
 -- ---- whether fields are there, and of their kinds
@@ -81,25 +81,25 @@ misfits : (kind : Kind) (o : Option Data) → IfSome o (λ d. is_of_kind kind d 
 misfits kind None h = refl
 misfits kind (Some d) h = ap not h
 
-fits : (field : Field) (ms : Members) (o : Option Data) → value_of field ms ≡ o → IfSome o (λ d. is_of_kind (field_kind field) d ≡ true) → is_misfit (field_kind field) (field_text field) ms ≡ false
+fits : (field : JobField) (ms : Members) (o : Option Data) → value_of field ms ≡ o → IfSome o (λ d. is_of_kind (field_kind field) d ≡ true) → is_misfit (field_kind field) (field_text field) ms ≡ false
 unfolding is_misfit
 fits field ms o at kind = ap (λ o. option_map_or (λ d. not (is_of_kind (field_kind field) d)) o false) at ∙ misfits (field_kind field) o kind
 
-there : (field : Field) (ms : Members) (d : Data) → value_of field ms ≡ Some d → has_field (field_text field) ms ≡ true
+there : (field : JobField) (ms : Members) (d : Data) → value_of field ms ≡ Some d → has_field (field_text field) ms ≡ true
 unfolding has_field
 there field ms d at = ap is_some at
 
-not_there : (field : Field) (ms : Members) → value_of field ms ≡ None → has_field (field_text field) ms ≡ false
+not_there : (field : JobField) (ms : Members) → value_of field ms ≡ None → has_field (field_text field) ms ≡ false
 unfolding has_field
 not_there field ms at = ap is_some at
 
-required : (session : Option ℕ) (field : Field) (ms : Members) (d : Data) → value_of field ms ≡ Some d → is_of_kind (field_kind field) d ≡ true → required_fault session field ms ≡ None
+required : (session : Option ℕ) (field : JobField) (ms : Members) (d : Data) → value_of field ms ≡ Some d → is_of_kind (field_kind field) d ≡ true → required_fault session field ms ≡ None
 unfolding required_fault
 required session field ms d at kind = then_none (passed _ (ap not (there field ms d at)))
     (then_none (passed _ (fits field ms (Some d) at kind))
     refl)
 
-optional : (session : Option ℕ) (field : Field) (ms : Members) (o : Option Data) → value_of field ms ≡ o → IfSome o (λ d. is_of_kind (field_kind field) d ≡ true) → optional_fault session field ms ≡ None
+optional : (session : Option ℕ) (field : JobField) (ms : Members) (o : Option Data) → value_of field ms ≡ o → IfSome o (λ d. is_of_kind (field_kind field) d ≡ true) → optional_fault session field ms ≡ None
 unfolding optional_fault
 optional session field ms o at kind = passed _ (fits field ms o at kind)
 
@@ -361,7 +361,7 @@ module _ (node : Bool) (job : JobForm) (is : IsJobForm node job) where
       told (by_formula text) = refl
       told (by_list masks) = refl
 
-  abbrev field_of : AdversaryForm → Field
+  abbrev field_of : AdversaryForm → JobField
   field_of (by_formula text) = Formula
   field_of (by_list masks) = Tolerated
 
@@ -375,7 +375,7 @@ module _ (node : Bool) (job : JobForm) (is : IsJobForm node job) where
   -- ---- fields
 
   -- a field of version 2 alone is known wherever it is told
-  choice_known : (a : AdversaryForm) (field : Field) (name : List ℕ) (told : Bool) → HasChoice a told → is_known (map field_text (top_fields true Tolerated)) (field_text field) ≡ true
+  choice_known : (a : AdversaryForm) (field : JobField) (name : List ℕ) (told : Bool) → HasChoice a told → is_known (map field_text (top_fields true Tolerated)) (field_text field) ≡ true
       → IfSome (choice_data name told) (λ d. is_known (map field_text (top_fields (two_of a) (field_of a))) (field_text field) ≡ true)
   choice_known (by_formula text) field name true h e = absurd h
   choice_known (by_formula text) field name false h e = tt

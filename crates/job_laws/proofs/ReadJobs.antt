@@ -19,8 +19,8 @@ use Rattle.list_laws.proofs.FirstFaults.{or_fault-ok, not_failed, passed-three}
 use Rattle.party_names.specs.Names.{party_named, names_fault, AreNames}
 use Rattle.party_names.proofs.NameFaults.{no_fault_tells}
 use Rattle.circuit_model.specs.declared.layout.CircuitLayout.TheVariants.{Bristol, Ring}
-use Rattle.job_file.specs.declared.field.Field.{Field}
-use Rattle.job_file.specs.declared.field.Field.TheVariants.{RingBits, Parties, Formula, Tolerated, Hosts, Port, Frames, Views, Session, Circuit, Layout, Products as ProductsField, Owners, Readers}
+use Rattle.job_file.specs.declared.field.JobField.{JobField}
+use Rattle.job_file.specs.declared.field.JobField.TheVariants.{RingBits, Parties, Formula, Tolerated, Hosts, Port, Frames, Views, Session, Circuit, Layout, Products as ProductsField, Owners, Readers}
 use Rattle.job_file.specs.declared.fault.JobFault.{JobFault}
 use Rattle.job_file.specs.declared.fault.JobFault.TheVariants.{NotToml, BadRing, BadFileName, BadLayout, BadProducts, BadOwner, BadCarry, BadReader, BadHost, BadPort, BadTolerated, TooManyTolerated, Missing, Unknown, WrongKind, Names}
 use Rattle.job_file.specs.declared.layout.SessionLayout.TheVariants.{Gates, Expressions}
@@ -214,15 +214,15 @@ none_of None e = refl
 none_of (Some d) e = cc
 
 module _ (fields : Members) where
-  no_texts : (field : Field) → is_there field fields ≡ false → texts field fields ≡ []
+  no_texts : (field : JobField) → is_there field fields ≡ false → texts field fields ≡ []
   unfolding has_field texts_at items_at
   no_texts field e = ap (λ o. map text_of (option_map_or items_of o [])) (none_of _ e)
 
-  no_integer : (field : Field) → is_there field fields ≡ false → integer field fields ≡ pos 0
+  no_integer : (field : JobField) → is_there field fields ≡ false → integer field fields ≡ pos 0
   unfolding has_field integer_at
   no_integer field e = ap (λ o. option_map_or integer_of o (pos 0)) (none_of _ e)
 
-  is_required : (field : Field) → required_fault None field fields ≡ None → is_there field fields ≡ true
+  is_required : (field : JobField) → required_fault None field fields ≡ None → is_there field fields ≡ true
   unfolding required_fault
   is_required field e =
       let first = head_passed (not (is_there field fields) answers Missing None field) ((is_of_other_kind field fields answers WrongKind None field) ∷ []) e in
@@ -292,7 +292,7 @@ module _ (fields : Members) where
   abbrev adversary_by : Bool → AdversaryForm
   adversary_by b = cond b (by_list (map (mask_of (texts Parties fields)) (lists Tolerated fields))) (by_formula (text Formula fields))
 
-  untold : (field : Field) → is_known (map field_text (top_fields false Formula)) (field_text field) ≡ false → unknown_fault None (top_fields false Formula) fields ≡ None → get_member (field_text field) fields ≡ None
+  untold : (field : JobField) → is_known (map field_text (top_fields false Formula)) (field_text field) ≡ false → unknown_fault None (top_fields false Formula) fields ≡ None → get_member (field_text field) fields ≡ None
   unfolding unknown_fault
   untold field unknown e = not_known (map field_text (top_fields false Formula)) (field_text field) fields unknown (map_none (λ name. Unknown None name) (least_unknown (map field_text (top_fields false Formula)) fields) e)
 

@@ -8,8 +8,8 @@ use Rattle.list_laws.specs.Lists.{joined, only_if}
 use Rattle.party_set.specs.Parties.{has_party}
 use Rattle.party_names.specs.Names.{name_at, AreNames}
 use Rattle.circuit_model.specs.declared.layout.CircuitLayout.TheVariants.{Bristol, Ring}
-use Rattle.job_file.specs.declared.field.Field.{Field}
-use Rattle.job_file.specs.declared.field.Field.TheVariants.{Version, RingBits, Parties, Formula, Tolerated, Hosts, Port, Frames, Views, Session, Circuit, Layout, Products as ProductsField, Owners, Readers}
+use Rattle.job_file.specs.declared.field.JobField.{JobField}
+use Rattle.job_file.specs.declared.field.JobField.TheVariants.{Version, RingBits, Parties, Formula, Tolerated, Hosts, Port, Frames, Views, Session, Circuit, Layout, Products as ProductsField, Owners, Readers}
 use Rattle.job_file.specs.declared.layout.SessionLayout.{SessionLayout}
 use Rattle.job_file.specs.declared.layout.SessionLayout.TheVariants.{Gates, Expressions}
 use Rattle.job_file.specs.declared.owner.JobOwner.{JobOwner}
@@ -27,7 +27,7 @@ use Rattle.job_limits.specs.declared.limits.TheConstants.{MOST_SESSIONS}
 -- ---- values
 
 -- a field, if there is a value for it, before others
-abbrev pub with_field : Field → Option Data → Members → Members
+abbrev pub with_field : JobField → Option Data → Members → Members
 with_field field None rest = rest
 with_field field (Some value) rest = member (field_text field) value rest
 

@@ -18,18 +18,18 @@ impl Protocol<bool, u64> for CountsTokens {
 }
 
 // A token that is given.
-struct Gives;
+struct GivesToken;
 
-impl Outcome<bool, u64> for Gives {
+impl Outcome<bool, u64> for GivesToken {
     ghost use Rattle.std.specs.Prelude.{◌≡◌, ◌+◌};
 
     ghost then = { λ given was is given'. given' ≡ given + 1 };
 }
 
 // A token that is taken.
-struct Takes;
+struct TakesToken;
 
-impl Outcome<bool, u64> for Takes {
+impl Outcome<bool, u64> for TakesToken {
     ghost use Rattle.std.specs.Prelude.{◌≡◌};
 
     ghost then = { λ given was is given'. given' ≡ given };
@@ -84,7 +84,7 @@ impl PartyParker {
     /// Parks until a token is there, and takes it.
     pub fn park<R: Wait>(&self, rt: &R) {
         let mut pass = self.parker.unparker().pass();
-        self.parker.park_as::<Takes, R>(rt, &mut pass);
+        self.parker.park_as::<TakesToken, R>(rt, &mut pass);
     }
 
     /// A waker of its own for a reader, which gave no token yet.
@@ -105,6 +105,6 @@ impl Waker {
     pub fn wake(&mut self)
         ensures { self.new ≡ gives self.old 1 }
     {
-        self.unparker.unpark_as::<Gives>(&mut self.pass);
+        self.unparker.unpark_as::<GivesToken>(&mut self.pass);
     }
 }

@@ -8,7 +8,7 @@ use mathlib.Core.Logic.{inl as left', inr as right'}
 use Rattle.message_board.specs.Pairs.{Knows}
 use Rattle.message_board.specs.Plain.{CellContents, plain_cell, plain_put}
 use Rattle.message_board.proofs.CellPosts.{cell_set_same, put_is, put_length, put_keeps, put_new, put_full}
-use Rattle.inbox_board.specs.declared.steps.View.{View}
+use Rattle.inbox_board.specs.declared.steps.InboxView.{InboxView}
 use Rattle.inbox_board.specs.Rule.{notes, total_after}
 use Rattle.inbox_board.specs.Seats.{Looks, mark_as}
 use Rattle.job_plan.specs.Messages.{messages}
@@ -18,7 +18,7 @@ use Rattle.outer_io.specs.Sink.{Writes}
 use Rattle.outer_io.specs.declared.sink.Failed.{Failed}
 use Rattle.node_talk.specs.PeerLinks.{place_among, no_outlet}
 use Rattle.link_reader.proofs.ExpectedMessages.{between_parties}
-use Rattle.node_run.specs.Mail.{Mail, BoxModel, no_box, box_of, IsRead, IsMail, SentTo, FlushedTo, failed_after, ComesFromPeer, MayTake, Takes, TakesFrom, Looked, LookedAtMark, NeverComes}
+use Rattle.node_run.specs.Mail.{Mail, BoxModel, no_box, box_of, IsRead, IsMail, SentTo, FlushedTo, failed_after, ComesFromPeer, MayTake, TakesWord, TakesFrom, Looked, LookedAtMark, NeverComes}
 use Rattle.node_run.proofs.KnownWords.{cell_there}
 
 -- ---- places
@@ -136,16 +136,16 @@ kept_ok q (Err f) before e = absurd (false≢true (sym e))
 
 -- ---- a look into an inbox
 
-pub looks_grow : (v u : View) (place : ℕ) (r : Option ℕ) → Looks v place r u → (p w : ℕ) → Knows v.seen p w → Knows u.seen p w
-looks_grow v u place None h p w k = subst (λ (z : View). Knows z.seen p w) (sym h.2) k
-looks_grow v u place (Some x) h p w k = subst (λ (z : View). Knows z.seen p w) (sym h.2) (inr k)
+pub looks_grow : (v u : InboxView) (place : ℕ) (r : Option ℕ) → Looks v place r u → (p w : ℕ) → Knows v.seen p w → Knows u.seen p w
+looks_grow v u place None h p w k = subst (λ (z : InboxView). Knows z.seen p w) (sym h.2) k
+looks_grow v u place (Some x) h p w k = subst (λ (z : InboxView). Knows z.seen p w) (sym h.2) (inr k)
 
-pub looks_found : (v u : View) (place : ℕ) (w : ℕ) (r : Option ℕ) → r ≡ Some w → Looks v place r u → Knows u.seen place w
+pub looks_found : (v u : InboxView) (place : ℕ) (w : ℕ) (r : Option ℕ) → r ≡ Some w → Looks v place r u → Knows u.seen place w
 looks_found v u place w None e h = absurd (let f : None ≡ Some w = e in cc)
-looks_found v u place w (Some x) e h = let same : x ≡ w = cc in subst (λ (z : View). Knows z.seen place w) (sym h.2) (inl (refl, same))
+looks_found v u place w (Some x) e h = let same : x ≡ w = cc in subst (λ (z : InboxView). Knows z.seen place w) (sym h.2) (inl (refl, same))
 
-pub notes_grow : (v u : View) (mark : ℕ) → u ≡ notes v mark → (p w : ℕ) → Knows v.seen p w → Knows u.seen p w
-notes_grow v u mark is p w k = subst (λ (z : View). Knows z.seen p w) (sym is) k
+pub notes_grow : (v u : InboxView) (mark : ℕ) → u ≡ notes v mark → (p w : ℕ) → Knows v.seen p w → Knows u.seen p w
+notes_grow v u mark is p w k = subst (λ (z : InboxView). Knows z.seen p w) (sym is) k
 
 module _ (c : Mail) (mail : IsMail c) (m : ℕ) (may : ComesFromPeer c m) (j : ℕ) (at : j ≡ place_among c.me (message c.plan m).sender) (b b' : BoxModel) (is : b ≡ get_or c.boxes j b) (same : b' ≡ record b { view = b'.view })
     (grows : (p w : ℕ) → Knows b.view.seen p w → Knows b'.view.seen p w) where
@@ -220,7 +220,7 @@ module _ (c : Mail) (mail : IsMail c) (m : ℕ) (may : ComesFromPeer c m) (j : �
 
 -- a mark that tells a fault is that of one
 pub fault_noted : (c d : Mail) (m : ℕ) → LookedAtMark c m (Some true) d → (box_of d (message c.plan m).sender).view.noted ≡ 2
-fault_noted c d m h = ap (λ (v : View). v.noted) h.noted ∙ fault_is h.found (sym h.answers)
+fault_noted c d m h = ap (λ (v : InboxView). v.noted) h.noted ∙ fault_is h.found (sym h.answers)
   where
     some_same : (a b : Bool) → Some a ≡ Some b → a ≡ b
     some_same a b f = cc
@@ -241,12 +241,12 @@ total_of (suc noted) n known e = refl
 
 pub never_comes : (c d : Mail) (m : ℕ) → (message c.plan m).sender ≢ c.me → (box_of c (message c.plan m).sender).view.noted ≡ 2 → Looked c m None d → NeverComes d m
 never_comes c d m other noted h =
-    let before : View = (box_of c (message c.plan m).sender).view in
+    let before : InboxView = (box_of c (message c.plan m).sender).view in
     record {
       peer = subst (λ (z : Mail). (message z.plan m).sender ≢ z.me) (sym h.rest) other;
-      ended = subst (λ (z : Mail). (box_of d (message z.plan m).sender).view.noted ≡ 2) (sym h.rest) (ap (λ (v : View). v.noted) h.looks.2 ∙ noted);
+      ended = subst (λ (z : Mail). (box_of d (message z.plan m).sender).view.noted ≡ 2) (sym h.rest) (ap (λ (v : InboxView). v.noted) h.looks.2 ∙ noted);
       total = h.looks.0;
-      found = subst (λ (z : Mail). (box_of d (message z.plan m).sender).view.total ≡ Some h.looks.0) (sym h.rest) (ap (λ (v : View). v.total) h.looks.2 ∙ total_of before.noted h.looks.0 before.total noted);
+      found = subst (λ (z : Mail). (box_of d (message z.plan m).sender).view.total ≡ Some h.looks.0) (sym h.rest) (ap (λ (v : InboxView). v.total) h.looks.2 ∙ total_of before.noted h.looks.0 before.total noted);
       few = subst (λ (z : Mail). h.looks.0 ≤ slice_index z.places m) (sym h.rest) h.looks.1;
     }
 
@@ -317,7 +317,7 @@ place_there c mail m may x is = is ∙ any_default c.places m x (let a = may.the
 
 -- ---- takes
 
-pub takes_known : (c : Mail) (m v : ℕ) → plain_cell c.words.cells m ≡ Some v → Takes c m (Some v) c
+pub takes_known : (c : Mail) (m v : ℕ) → plain_cell c.words.cells m ≡ Some v → TakesWord c m (Some v) c
 takes_known c m v e = record {
   rest = refl;
   answers = (e, sym (put_again c.words.cells m v e));
@@ -330,7 +330,7 @@ takes_known c m v e = record {
 look_over : (c d : Mail) (m : ℕ) (a : Option ℕ) → Looked c m a d → Looked c m a (record d { words = c.words })
 look_over c d m a h = subst (Looked c m a) (ap (λ z. record d { words = z }) (ap (λ (z : Mail). z.words) h.rest)) h
 
-pub takes_nothing : (c d : Mail) (m : ℕ) → plain_cell c.words.cells m ≡ None → Looked c m None d → Takes c m None d
+pub takes_nothing : (c d : Mail) (m : ℕ) → plain_cell c.words.cells m ≡ None → Looked c m None d → TakesWord c m None d
 takes_nothing c d m e h = record {
   rest = h.rest ∙ ap (λ z. record c { words = z; boxes = d.boxes }) (sym (ap (λ z. z.words) h.rest));
   answers = ap (λ z. z.words.cells) h.rest;
@@ -340,7 +340,7 @@ takes_nothing c d m e h = record {
 }
 
 pub takes_found : (c d : Mail) (m found v : ℕ) (kept : CellContents) → plain_cell c.words.cells m ≡ None → v ≡ found % 2 ^ c.plan.bits → Looked c m (Some found) d → length kept.cells ≡ length d.words.cells
-    → plain_cell kept.cells m ≡ Some v → kept.cells ≡ plain_put d.words.cells m v → Takes c m (Some v) (record d { words = kept })
+    → plain_cell kept.cells m ≡ Some v → kept.cells ≡ plain_put d.words.cells m v → TakesWord c m (Some v) (record d { words = kept })
 takes_found c d m found v kept e reduced h count is put = record {
   rest = ap (λ (z : Mail). record z { words = kept }) h.rest;
   answers = (is, put ∙ ap (λ (z : Mail). plain_put z.words.cells m v) h.rest);

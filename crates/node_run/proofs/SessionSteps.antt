@@ -40,7 +40,7 @@ use Rattle.node_talk.specs.PeerLinks.{place_among, no_outlet, out_to}
 use Rattle.node_talk.proofs.Frames.{said_step}
 use Rattle.node_talk.proofs.ExpectedPlaces.{between_parties}
 use Rattle.node_talk.proofs.ActPlaces.{at_act, within_acts, posted_before_take, taken_there}
-use Rattle.node_run.specs.Mail.{Mail, SentTo, Posts, ComesFromPeer, MayPost, MayTake, Takes, TakesFrom, NeverComes, with_post, failed_after, outlet_to}
+use Rattle.node_run.specs.Mail.{Mail, SentTo, Posts, ComesFromPeer, MayPost, MayTake, TakesWord, TakesFrom, NeverComes, with_post, failed_after, outlet_to}
 use Rattle.node_run.specs.Progress.{Begin, Agrees, HasTaken, HasPosted, KeepsOwn, IsOf, Going, KeepsRoom, OutletStays, Stopped, StopsBy, Halted, InSession, before_session, ids_of, said_bytes}
 use Rattle.node_run.specs.Turns.{Awaits}
 use Rattle.node_run.proofs.KnownWords.{known, agrees_known, later_taken, later_posted}
@@ -66,7 +66,7 @@ pub record AreNodeCells (cells : Meaning Mail) : Type 0 where
   pub may_post : (c : Mail) (m w : ℕ) → MayPost c m w → cells.may_post c m w
   pub may_take : (c : Mail) (m : ℕ) → MayTake c m → cells.may_take c m
   pub put : (c : Mail) (m w : ℕ) (p : Posted) (d : Mail) → cells.put c m w p d → (p ≡ Done) × Posts c m w d
-  pub took : (c : Mail) (m : ℕ) (a : Option ℕ) (d : Mail) → cells.took c m a d → Takes c m a d
+  pub took : (c : Mail) (m : ℕ) (a : Option ℕ) (d : Mail) → cells.took c m a d → TakesWord c m a d
   pub got : (c : Mail) (m w : ℕ) → cells.got c m w → plain_cell c.words.cells m ≡ Some w
 
 abbrev pub node_cells : Meaning Mail
@@ -75,7 +75,7 @@ node_cells = record {
   may_take = MayTake;
   got = λ c m w. plain_cell c.words.cells m ≡ Some w;
   put = λ c m w p d. (p ≡ Done) × Posts c m w d;
-  took = Takes;
+  took = TakesWord;
   below = λ c k. c.plan.bits ≡ k;
 }
 

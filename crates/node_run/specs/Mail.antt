@@ -5,7 +5,7 @@ use Rattle.std.specs.Option.{option_map}
 use Rattle.atomic_table.specs.Seated.{TableId}
 use Rattle.message_board.specs.Pairs.{Knows}
 use Rattle.message_board.specs.Plain.{CellContents, plain_cell, plain_put}
-use Rattle.inbox_board.specs.declared.steps.View.{View}
+use Rattle.inbox_board.specs.declared.steps.InboxView.{InboxView}
 use Rattle.inbox_board.specs.Rule.{newcomer, notes}
 use Rattle.inbox_board.specs.Seats.{Looks, mark_as}
 use Rattle.job_plan.specs.Plans.{Plan, slots}
@@ -27,7 +27,7 @@ use Rattle.node_talk.specs.PeerLinks.{place_among, no_outlet}
 pub record BoxModel : Type 0 where
   pub id : TableId
   pub places : ℕ
-  pub view : View
+  pub view : InboxView
 
 -- the outlets and inboxes stand in the order of the peers, words and places by the numbers of messages
 pub record Mail : Type 0 where
@@ -192,7 +192,7 @@ TakesFrom before m None answer after =
     × (answer ≡ option_map (λ w. w % 2 ^ before.plan.bits) found)
 
 -- a take of message m read its word, or found its place empty
-pub record Takes (before : Mail) (m : ℕ) (answer : Option ℕ) (after : Mail) : Type 0 where
+pub record TakesWord (before : Mail) (m : ℕ) (answer : Option ℕ) (after : Mail) : Type 0 where
   pub rest : after ≡ record before { words = after.words; boxes = after.boxes }
   pub answers : AnswersAs m answer before.words.cells after.words.cells
   pub from : TakesFrom before m (plain_cell before.words.cells m) answer after

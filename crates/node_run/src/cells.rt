@@ -123,7 +123,7 @@ impl<'p, O: Outlet> Cells for NodeCells<'p, O> {
     ghost use Rattle.std.specs.Prelude.{◌≡◌, Some};
     ghost use Rattle.message_board.specs.Plain.{plain_cell};
     ghost use Rattle.message_board.specs.declared.cells.Posted.TheVariants.{Done};
-    ghost use Rattle.node_run.specs.Mail.{MayPost, MayTake, Posts, Takes};
+    ghost use Rattle.node_run.specs.Mail.{MayPost, MayTake, Posts, TakesWord};
 
     ghost may_post = { MayPost };
 
@@ -133,7 +133,7 @@ impl<'p, O: Outlet> Cells for NodeCells<'p, O> {
 
     ghost put = { λ c n w a d. (a ≡ Done) × Posts c n w d };
 
-    ghost took = { Takes };
+    ghost took = { TakesWord };
 
     ghost below = { λ c k. c.plan.bits ≡ k };
 

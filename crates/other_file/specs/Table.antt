@@ -11,7 +11,7 @@ use Rattle.list_laws.specs.Checks.{◌answers◌, first_fault, or_fault}
 use Rattle.party_names.specs.Names.{name_at}
 use Rattle.job_plan.specs.Plans.{Plan}
 use Rattle.party_file.specs.Table.{version_checks, input_checks, numbers_in}
-use Rattle.party_file.specs.declared.field.Field.TheVariants as field
+use Rattle.party_file.specs.declared.field.PartyField.TheVariants as field
 use Rattle.party_file.specs.declared.fault.PartyFault.{PartyFault}
 use Rattle.party_file.specs.declared.fault.PartyFault.TheVariants.{NotToml, Missing, Unknown, WrongKind, CountDiffers}
 use Rattle.other_file.specs.declared.fault.OtherFault.{OtherFault}

@@ -6,7 +6,7 @@ ghost use Rattle.list_laws.specs.Checks.{first_fault, or_fault};
 ghost use Rattle.party_file.specs.declared.fault.PartyFault.TheVariants.{Memory};
 ghost use Rattle.other_file.specs.Table.{name_checks, kind_checks, inputs_in, file_checks};
 
-use party_file::{Field, PartyFault, check_version};
+use party_file::{PartyFault, PartyField, check_version};
 use party_names::{NameText, Names};
 use std::alloc::{AllocError, Global};
 use toml::Table;
@@ -44,7 +44,7 @@ fn check_names(alloc: Global, table: &Table, known: &[&str]) -> Result<(), Party
 fn check_kinds(table: &Table) -> Result<(), PartyFault>
     ensures { result ≡ or_fault (first_fault (kind_checks (table_view table.now))) tt }
 {
-    let field = Field::Inputs;
+    let field = PartyField::Inputs;
     if !has_field(table, "inputs") {
         return Err(PartyFault::Missing { field });
     }

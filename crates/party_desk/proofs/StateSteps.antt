@@ -24,7 +24,7 @@ use Rattle.party_program.specs.declared.program.Instruction.{Instruction}
 use Rattle.party_program.specs.declared.program.Instruction.TheVariants.{Draw, Deal, Post, Take, Linear, Own, Sum, Open, Join, Deliver, End}
 use Rattle.party_program.specs.Proper.{IsMask, IsOutput, Proper}
 use Rattle.party_program.specs.States.{State, after, dealt_in, drawn_in, excess_of, joined_in, opened, opened_in, output_in_slot, set_side, taking_slot, took_in}
-use Rattle.program_laws.specs.WordsRead.{gate_at, Deals, Reads, ReadsSummand, SetsSummand, Takes}
+use Rattle.program_laws.specs.WordsRead.{gate_at, Deals, Reads, ReadsSummand, SetsSummand, TakesInto}
 use Rattle.program_laws.proofs.GateReads.{local_same}
 use Rattle.program_laws.proofs.SetWords.{Finishes}
 use Rattle.share_world.proofs.Settled.{is_first, is_one, is_second}
@@ -97,7 +97,7 @@ module _ (plan : Plan) (s p : ℕ) where
   abbrev pub Stays : (State → State) → ℕ → ℕ → Type 0
   Stays does v i = (σ : State) → (does σ).rows v i ≡ σ.rows v i
 
-  taken_wire : (z : Slot) (v : ℕ) → Takes x z v → sets_in x z ≡ v ∷ []
+  taken_wire : (z : Slot) (v : ℕ) → TakesInto x z v → sets_in x z ≡ v ∷ []
   taken_wire (Input u) v e = ap (λ w. w ∷ []) (sym e)
   taken_wire (Mask t side) v e = ap (λ w. w ∷ []) (sym e)
   taken_wire (At_gate t) v e = absurd e
@@ -133,7 +133,7 @@ module _ (plan : Plan) (s p : ℕ) where
   one_or_stays u v i does off' = elim (cases_eq v u) [ inl e ↦ inl e | inr ne ↦ inr (λ σ. off' σ ne) ]
 
   module _ (words : ℕ → ℕ) (input : ℕ) where
-    drawn_or_stays : (z : Slot) (v i : ℕ) → (Takes x z v × (holder_of plan i ≡ p)) ⊎ Stays (drawn_in plan p s words z) v i
+    drawn_or_stays : (z : Slot) (v i : ℕ) → (TakesInto x z v × (holder_of plan i ≡ p)) ⊎ Stays (drawn_in plan p s words z) v i
     drawn_or_stays (Mask t side) v i =
         let u : ℕ = mask_wire x t side in
         let new : State → ℕ → ℕ = λ σ i. if nat_eq (holder_of plan i) p then words (least_held plan p i) else σ.rows u i in
@@ -169,7 +169,7 @@ module _ (plan : Plan) (s p : ℕ) where
       | inr ne ↦ inr (λ σ. ap (λ f. f v i) (is σ) ∙ off σ.rows u v i _ ne)
     ]
 
-    taken_or_stays : (z : Slot) (j w v i : ℕ) → (Takes x z v × (i ≡ j)) ⊎ Stays (took_in plan s z j w) v i
+    taken_or_stays : (z : Slot) (j w v i : ℕ) → (TakesInto x z v × (i ≡ j)) ⊎ Stays (took_in plan s z j w) v i
     taken_or_stays (Input u) j w v i = put_or_stays u j w v i (took_in plan s (Input u) j w) (λ σ. refl)
     taken_or_stays (Mask t side) j w v i = put_or_stays (mask_wire x t side) j w v i (took_in plan s (Mask t side) j w) (λ σ. refl)
     taken_or_stays (At_gate t) j w v i = inr (λ σ. refl)
@@ -261,7 +261,7 @@ module _ (plan : Plan) (s p : ℕ) where
             let u : ℕ = mask_wire x' t side in
             let own : holder_of plan i ≡ p = sets.1 in
             let word : ℕ = words (least_held plan p i) in
-            set_both ρ.rows σ.rows u v i _ _ (subst (λ y. Takes x' y v) is sets.0)
+            set_both ρ.rows σ.rows u v i _ _ (subst (λ y. TakesInto x' y v) is sets.0)
             (cond-true (nat_eq (holder_of plan i) p) word _ (eq-eqb (holder_of plan i) p own) ∙ sym (cond-true (nat_eq (holder_of plan i) p) word _ (eq-eqb (holder_of plan i) p own)));
         same_parts = record { own = parts.own; sums = parts.sums; excess = parts.excess; given = parts.given; outputs = parts.outputs };
       }
@@ -301,18 +301,18 @@ module _ (plan : Plan) (s p : ℕ) where
 
       take_same : (n j w : ℕ) (z : Slot) → taking_slot plan n ≡ z → SameAfter (Take n j) (took_in plan s z j w ρ) (took_in plan s z j w σ)
       take_same n j w (Input u) is = record {
-        rows = λ v i li sets l. put_same u j w v i (subst (λ y. Takes x' y v) is sets.0) sets.1;
+        rows = λ v i li sets l. put_same u j w v i (subst (λ y. TakesInto x' y v) is sets.0) sets.1;
         same_parts = record { own = parts.own; sums = parts.sums; excess = parts.excess; given = parts.given; outputs = parts.outputs };
       }
       take_same n j w (Mask t side) is = record {
-        rows = λ v i li sets l. put_same (mask_wire x' t side) j w v i (subst (λ y. Takes x' y v) is sets.0) sets.1;
+        rows = λ v i li sets l. put_same (mask_wire x' t side) j w v i (subst (λ y. TakesInto x' y v) is sets.0) sets.1;
         same_parts = record { own = parts.own; sums = parts.sums; excess = parts.excess; given = parts.given; outputs = parts.outputs };
       }
-      take_same n j w (At_gate t) is = record { rows = λ v i li sets l. absurd (subst (λ y. Takes x' y v) is sets.0); same_parts = with_sums _ _ (sums_put j w) }
-      take_same n j w (Output o) is = record { rows = λ v i li sets l. absurd (subst (λ y. Takes x' y v) is sets.0); same_parts = with_sums _ _ (sums_put j w) }
-      take_same n j w (Mask_product t) is = record { rows = λ v i li sets l. absurd (subst (λ y. Takes x' y v) is sets.0); same_parts = with_sums _ _ (sums_put j w) }
-      take_same n j w (Masked t side) is = record { rows = λ v i li sets l. absurd (subst (λ y. Takes x' y v) is sets.0); same_parts = with_sums _ _ (sums_put j w) }
-      take_same n j w (Kept place) is = record { rows = λ v i li sets l. absurd (subst (λ y. Takes x' y v) is sets.0); same_parts = with_sums _ _ (sums_put j w) }
+      take_same n j w (At_gate t) is = record { rows = λ v i li sets l. absurd (subst (λ y. TakesInto x' y v) is sets.0); same_parts = with_sums _ _ (sums_put j w) }
+      take_same n j w (Output o) is = record { rows = λ v i li sets l. absurd (subst (λ y. TakesInto x' y v) is sets.0); same_parts = with_sums _ _ (sums_put j w) }
+      take_same n j w (Mask_product t) is = record { rows = λ v i li sets l. absurd (subst (λ y. TakesInto x' y v) is sets.0); same_parts = with_sums _ _ (sums_put j w) }
+      take_same n j w (Masked t side) is = record { rows = λ v i li sets l. absurd (subst (λ y. TakesInto x' y v) is sets.0); same_parts = with_sums _ _ (sums_put j w) }
+      take_same n j w (Kept place) is = record { rows = λ v i li sets l. absurd (subst (λ y. TakesInto x' y v) is sets.0); same_parts = with_sums _ _ (sums_put j w) }
 
       linear_same : (k : ℕ) → ReadsByGate (Linear k) → KnownAt (Linear k) → HeldLater (Linear k) → SameAfter (Linear k) (after plan p s words input got (Linear k) ρ) (after plan p s words input got (Linear k) σ)
       linear_same k reads known held =

@@ -12,7 +12,7 @@ use Rattle.tape_words.specs.Seeds.{seed_word}
 use Rattle.toml_fields.specs.Documents.{document_of}
 use Rattle.list_laws.specs.Checks.{◌answers◌, first_fault, or_fault}
 use Rattle.party_file.specs.Table.{version_checks, name_checks, kind_checks, count_checks, input_checks, random_checks, seed_checks, seed_in, tape_checks, word_counts, party_checks, party_given, party_in, party_in_fields, PartyForm, numbers_in, tapes_of}
-use Rattle.party_file.specs.declared.field.Field.TheVariants as field
+use Rattle.party_file.specs.declared.field.PartyField.TheVariants as field
 use Rattle.party_file.specs.declared.fault.PartyFault.{PartyFault}
 use Rattle.party_file.specs.declared.fault.PartyFault.TheVariants.{Memory, NotToml, TapeAndSeed, Missing, CountDiffers}
 use Rattle.list_laws.proofs.FirstFaults.{first-front, after_passed, passed-three, not_failed}

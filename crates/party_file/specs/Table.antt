@@ -19,7 +19,7 @@ use Rattle.toml_fields.specs.declared.kind.Kind.TheVariants as kind
 use Rattle.job_plan.specs.Plans.{Plan, session, words}
 use Rattle.session_slots.specs.Counts.{owned}
 use Rattle.list_laws.specs.Checks.{◌answers◌, first_fault, or_fault}
-use Rattle.party_file.specs.declared.field.Field.TheVariants as field
+use Rattle.party_file.specs.declared.field.PartyField.TheVariants as field
 use Rattle.party_file.specs.declared.fault.WordCause.{WordCause}
 use Rattle.party_file.specs.declared.fault.WordCause.TheVariants as cause
 use Rattle.party_file.specs.declared.fault.PartyFault.{PartyFault}

@@ -1,15 +1,15 @@
 -- What the line of a refusal tells of a fault of a party's file.
 use Rattle.std.specs.Prelude.{ℕ, List, [], ◌∷◌, ◌++◌, codes}
 use Rattle.fault_table.specs.Tables.{Keys, Entry, fault, in_session, at_place, found_for, Signed, Text, Name}
-use Rattle.party_file.specs.declared.field.Field.{Field}
-use Rattle.party_file.specs.declared.field.Field.TheVariants as field
+use Rattle.party_file.specs.declared.field.PartyField.{PartyField}
+use Rattle.party_file.specs.declared.field.PartyField.TheVariants as field
 use Rattle.party_file.specs.declared.fault.WordCause.{WordCause}
 use Rattle.party_file.specs.declared.fault.WordCause.TheVariants as cause
 use Rattle.party_file.specs.declared.fault.PartyFault.{PartyFault}
 use Rattle.party_file.specs.declared.fault.PartyFault.TheVariants.{NotToml, Version, Missing, Unknown, WrongKind, CountDiffers, BadWords, WordOutOfRing, TapeAndSeed, BadSeed, TapeShort, Memory}
 
 -- the name of a field
-abbrev pub field_text : Field → List ℕ
+abbrev pub field_text : PartyField → List ℕ
 field_text field.Version = codes "version"
 field_text field.Inputs = codes "inputs"
 field_text field.Tape = codes "tape"
@@ -21,7 +21,7 @@ cause_text cause.NotNumber = codes "NotNumber"
 cause_text cause.TooLarge = codes "TooLarge"
 
 -- the field that is missing, or of another kind
-abbrev pub of_field : Field → Keys
+abbrev pub of_field : PartyField → Keys
 of_field f = (codes "field", Text (field_text f)) ∷ []
 
 abbrev pub told_party_fault : PartyFault → Entry

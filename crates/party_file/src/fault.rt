@@ -3,7 +3,7 @@ ghost use Rattle.std.specs.Prelude.{◌≡◌, ◌<◌, [], ◌∷◌, codes, le
 ghost use Rattle.fault_table.specs.Tables.{fault, Name};
 ghost use Rattle.party_file.specs.ToldFaults.{cause_text, of_field, told_party_fault};
 
-use crate::field::Field;
+use crate::field::PartyField;
 use fault_table::{Entry, MOST_KEYS};
 use party_names::NameText;
 use std::alloc::{AllocError, AllocFailed};
@@ -40,7 +40,7 @@ pub enum PartyFault {
     },
     /// A field is missing: for a file without random words, the tape.
     Missing {
-        field: Field,
+        field: PartyField,
     },
     /// There is a field of another name; this is the least by bytes.
     Unknown {
@@ -48,7 +48,7 @@ pub enum PartyFault {
     },
     /// A field is of another kind.
     WrongKind {
-        field: Field,
+        field: PartyField,
     },
     /// In a session, there are other inputs than the party's input wires; without a session, other texts of inputs
     /// than sessions.
@@ -121,7 +121,7 @@ fn unknown(name: &str) -> Entry<'_>
     Entry::new(4, "Unknown").with_name("name", name.as_bytes())
 }
 
-fn of_field(number: u32, name: &'static str, field: Field) -> Entry<'static>
+fn of_field(number: u32, name: &'static str, field: PartyField) -> Entry<'static>
     ensures { result ≡ fault number name.now (of_field field) }
 {
     Entry::new(number, name).with_text("field", field.text().as_bytes())

@@ -4,23 +4,23 @@ ghost use Rattle.party_file.specs.ToldFaults.{field_text};
 
 /// A field of a party's file.
 #[derive(Clone, Copy, Debug, PartialEq, Eq)]
-pub enum Field {
+pub enum PartyField {
     Version,
     Inputs,
     Tape,
     Seed,
 }
 
-impl Field {
+impl PartyField {
     /// The name of the field.
     pub fn text(self) -> &'static str
         ensures { result.now ≡ field_text self }
     {
         match self {
-            Field::Version => "version",
-            Field::Inputs => "inputs",
-            Field::Tape => "tape",
-            Field::Seed => "seed",
+            PartyField::Version => "version",
+            PartyField::Inputs => "inputs",
+            PartyField::Tape => "tape",
+            PartyField::Seed => "seed",
         }
     }
 }

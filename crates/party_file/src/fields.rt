@@ -6,7 +6,7 @@ ghost use Rattle.party_file.specs.Table.{version_checks, name_checks, kind_check
 ghost use Rattle.party_file.specs.declared.fault.PartyFault.TheVariants.{Memory};
 
 use crate::fault::PartyFault;
-use crate::field::Field;
+use crate::field::PartyField;
 use party_names::NameText;
 use std::alloc::Global;
 use toml::Table;
@@ -24,7 +24,7 @@ pub fn check(failed: bool, fault: PartyFault) -> Result<(), PartyFault>
 pub fn check_version(table: &Table) -> Result<(), PartyFault>
     ensures { result ≡ or_fault (first_fault (version_checks (table_view table.now))) tt }
 {
-    let field = Field::Version;
+    let field = PartyField::Version;
     check(!has_field(table, "version"), PartyFault::Missing { field })?;
     check(
         is_misfit(table, "version", Kind::Integer),
@@ -54,7 +54,7 @@ pub fn check_names(alloc: Global, table: &Table) -> Result<(), PartyFault>
 pub fn check_kinds(table: &Table) -> Result<(), PartyFault>
     ensures { result ≡ or_fault (first_fault (kind_checks (table_view table.now))) tt }
 {
-    let inputs = Field::Inputs;
+    let inputs = PartyField::Inputs;
     check(
         !has_field(table, "inputs"),
         PartyFault::Missing { field: inputs },
@@ -65,11 +65,15 @@ pub fn check_kinds(table: &Table) -> Result<(), PartyFault>
     )?;
     check(
         is_misfit(table, "tape", Kind::Text),
-        PartyFault::WrongKind { field: Field::Tape },
+        PartyFault::WrongKind {
+            field: PartyField::Tape,
+        },
     )?;
     check(
         is_misfit(table, "seed", Kind::Text),
-        PartyFault::WrongKind { field: Field::Seed },
+        PartyFault::WrongKind {
+            field: PartyField::Seed,
+        },
     )
 }
 
@@ -81,7 +85,12 @@ pub fn check_counts(table: &Table, sessions: u32) -> Result<(), PartyFault>
     let tape = has_field(table, "tape");
     let seed = has_field(table, "seed");
     check(tape && seed, PartyFault::TapeAndSeed)?;
-    check(!(tape || seed), PartyFault::Missing { field: Field::Tape })?;
+    check(
+        !(tape || seed),
+        PartyFault::Missing {
+            field: PartyField::Tape,
+        },
+    )?;
     let wanted = u64::from(sessions);
     let found = items_at(table, "inputs").len() as u64;
     check(

@@ -12,7 +12,7 @@ mod tapes;
 
 pub use data::PartyData;
 pub use fault::{PartyFault, WordCause};
-pub use field::Field;
+pub use field::PartyField;
 pub use fields::check_version;
 pub use inputs::read_inputs;
 pub use party::read_party;

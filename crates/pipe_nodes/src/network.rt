@@ -1,7 +1,7 @@
 //! The nodes of all parties of a job, and the pipes between them.
 use crate::asked::{Asked, Flaw};
 use crate::node::{Ended, Node, make_node, run_node};
-use crate::pipe::{Gate, InVain, make_pipe};
+use crate::pipe::{InVain, PipeGate, make_pipe};
 use crate::reader_threads::ReaderThreads;
 use crate::thread_net::{PipeEnds, ThreadNet};
 use std::alloc::{AllocError, Global};
@@ -79,7 +79,7 @@ fn connect_all(
 
 /// Has the party wait for its peer `from` until `bytes` bytes have come from the peer after that.
 fn hold(alloc: Global, ends: &mut PipeEnds, from: usize, bytes: u64) -> Result<(), Fail> {
-    let gate: Gate = Arc::new(alloc, AtomicBool::new(false))?;
+    let gate: PipeGate = Arc::new(alloc, AtomicBool::new(false))?;
     let next = ends
         .incoming
         .get_mut(from.saturating_add(1))

@@ -17,7 +17,7 @@ const LOOKS_AT_GATE: u64 = 100_000_000;
 pub type InVain = Arc<AtomicU64, Global>;
 
 /// A gate between two pipes, true once it is open.
-pub type Gate = Arc<AtomicBool, Global>;
+pub type PipeGate = Arc<AtomicBool, Global>;
 
 /// What the end of a pipe that receives has to do with a gate.
 #[derive(Drop)]
@@ -25,9 +25,9 @@ enum AtGate {
     /// Nothing.
     Free,
     /// It waits at the gate before it receives.
-    Behind(Gate),
+    Behind(PipeGate),
     /// It opens the gate once it has received `bytes` bytes more.
-    Opens { gate: Gate, bytes: u64 },
+    Opens { gate: PipeGate, bytes: u64 },
 }
 
 /// The end of a pipe that sends. To drop it is to close it.
@@ -98,7 +98,7 @@ impl Sender {
 }
 
 // Waits until the gate is open.
-fn wait_at(gate: &Gate, in_vain: &InVain) -> Result<(), Failed> {
+fn wait_at(gate: &PipeGate, in_vain: &InVain) -> Result<(), Failed> {
     for _ in 0..LOOKS_AT_GATE {
         if gate.load(Ordering::SeqCst) {
             return Ok(());
@@ -126,12 +126,12 @@ fn after_a_byte(at_gate: AtGate) -> AtGate {
 
 impl Receiver {
     /// Receives nothing until this gate is open.
-    pub fn wait_behind(&mut self, gate: Gate) {
+    pub fn wait_behind(&mut self, gate: PipeGate) {
         self.at_gate = AtGate::Behind(gate);
     }
 
     /// Opens this gate once `bytes` bytes more are received.
-    pub fn open_after(&mut self, bytes: u64, gate: Gate) {
+    pub fn open_after(&mut self, bytes: u64, gate: PipeGate) {
         self.at_gate = AtGate::Opens { gate, bytes };
     }
 

@@ -151,7 +151,7 @@ module _ (plan : Plan) (s p : ℕ) where
 -- ---- what instructions name, where the plan is within the limits
 
 -- message n is there, of this session, and from a party, and i is its share
-pub record Names (plan : Plan) (s n i : ℕ) : Type 0 where
+pub record NamesMessage (plan : Plan) (s n i : ℕ) : Type 0 where
   pub number : n < length (messages plan)
   pub slot : (message plan n).slot < slots plan s
   pub session : (message plan n).session ≡ s
@@ -203,7 +203,7 @@ module _ (plan : Plan) (sound : IsSound plan) (s p : ℕ) (ls : s < length plan.
   Fits (Open k) = Is k IsMasked
   Fits (Join k) = Is k Joins
   Fits (Deliver k) = Is k IsOutput
-  Fits (Post n i) = Names plan s n i × ((message plan n).sender ≡ p)
+  Fits (Post n i) = NamesMessage plan s n i × ((message plan n).sender ≡ p)
   Fits (Take n i) = Gets plan s n i
   Fits End = ⊥
 
@@ -215,7 +215,7 @@ module _ (plan : Plan) (sound : IsSound plan) (s p : ℕ) (ls : s < length plan.
   pub taken_in_slot : (k : ℕ) → k < slots plan s → AllByRecursion (IsTakenIn plan s k) (taken plan s k)
   taken_in_slot k lk = all_taken plan is_plan (givers plan sound) s k ls lk
 
-  named : (k n : ℕ) → k < slots plan s → (n < length (messages plan)) × Of plan s k (message plan n) → Names plan s n (message plan n).share
+  named : (k n : ℕ) → k < slots plan s → (n < length (messages plan)) × Of plan s k (message plan n) → NamesMessage plan s n (message plan n).share
   named k n lk f = record { number = f.0; slot = (let a = f.1.0 in omega arith); session = f.1.2; sender = f.1.1; share = refl }
 
   got_here : (k n : ℕ) → k < slots plan s → IsTakenIn plan s k n → Gets plan s n (message plan n).share

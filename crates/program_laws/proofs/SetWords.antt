@@ -31,7 +31,7 @@ use Rattle.session_slots.specs.EarlyWires.{completes, slot_completes, is_join, s
 use Rattle.party_program.specs.declared.program.Instruction.{Instruction}
 use Rattle.party_program.specs.declared.program.Instruction.TheVariants.{Draw, Deal, Post, Take, Linear, Own, Sum, Open, Join, Deliver, End}
 use Rattle.party_program.specs.Programs.{program, at, to, take_of, input_taken, opening, closing, posts, taken, taken_in, takes}
-use Rattle.program_laws.specs.WordsRead.{gate_at, Deals, Takes, SetsSummand, ReadsSummand, IsSet, IsToRead}
+use Rattle.program_laws.specs.WordsRead.{gate_at, Deals, TakesInto, SetsSummand, ReadsSummand, IsSet, IsToRead}
 use Rattle.job_session.proofs.BatchOrder.{batch_within, no_wait, rising}
 use Rattle.program_laws.proofs.CarriedSlots.{carried_has}
 use Rattle.program_laws.proofs.ContainedInstructions.{Contains, contains_left, contains_right}
@@ -149,19 +149,19 @@ module _ (plan : Plan) (sound : IsSound plan) (s p : ℕ) (ls : s < length plan.
       (rest.0, contains_right (take_of plan n ∷ []) (map (take_of plan) ns) (take_of plan rest.0) rest.1, rest.2, rest.3)
 
   -- what comes to the party is taken
-  takes_it : (v i j : ℕ) (z : Slot) → j < slots plan s → slot plan s j ≡ z → Takes x z v → slot_completes x j v ≡ true → Has plan i (filter (to plan p) (taken plan s j)) → Setter j v i
+  takes_it : (v i j : ℕ) (z : Slot) → j < slots plan s → slot plan s j ≡ z → TakesInto x z v → slot_completes x j v ≡ true → Has plan i (filter (to plan p) (taken plan s j)) → Setter j v i
   takes_it v i j z lj here takes_in complete has =
       let one = has_take i j (filter (to plan p) (taken plan s j)) (every_filter _ (IsTakenIn plan s j) (to plan p) (taken plan s j) (taken_in_slot plan sound s p ls j lj) (λ n it e. it)) has in
       record {
         instruction = take_of plan one.0;
         stands = tail_in plan s p j (take_of plan one.0) lj (contains_left (takes plan p s j) _ (take_of plan one.0) one.1);
-        sets = (subst (λ y. Takes x y v) (sym (one.3.same ∙ here)) takes_in, sym one.2);
+        sets = (subst (λ y. TakesInto x y v) (sym (one.3.same ∙ here)) takes_in, sym one.2);
         named = ap (λ (at : ℕ × ℕ). at.1) one.3.to;
         late = λ e. complete;
       }
 
   -- where the messages of the slot are taken in it
-  taken_there : (v i j : ℕ) (z : Slot) → j < slots plan s → slot plan s j ≡ z → taken_in plan s j z ≡ numbers plan s j → Takes x z v → slot_completes x j v ≡ true → Any p i (slot_messages plan s j z) → Setter j v i
+  taken_there : (v i j : ℕ) (z : Slot) → j < slots plan s → slot plan s j ≡ z → taken_in plan s j z ≡ numbers plan s j → TakesInto x z v → slot_completes x j v ≡ true → Any p i (slot_messages plan s j z) → Setter j v i
   taken_there v i j z lj here own takes_in complete any =
       takes_it v i j z lj here takes_in complete
       (subst (λ ns. Has plan i (filter (to plan p) ns)) (sym (ap (taken_in plan s j) here ∙ own))
@@ -233,7 +233,7 @@ module _ (plan : Plan) (sound : IsSound plan) (s p : ℕ) (ls : s < length plan.
         | inl own ↦ record {
           instruction = Draw j;
           stands = draw_there j t i side li lj here own;
-          sets = (subst (λ y. Takes x y v) (sym here) same, own);
+          sets = (subst (λ y. TakesInto x y v) (sym here) same, own);
           named = refl;
           late = λ e. never e;
         }
@@ -339,7 +339,7 @@ module _ (plan : Plan) (sound : IsSound plan) (s p : ℕ) (ls : s < length plan.
         dealt z here e d = sooner q v i (Deal k (deals_before plan p s k)) (deal_there k v z lk here e d) l (let a = r.after in omega arith) (subst (λ y. Deals x y v) (sym here) d)
 
         of : (z : Slot) → slot plan s k ≡ z → OwnIn plan sound s p ls lp z v i → IsSet plan p s q v i
-        of (Mask t side) here own = sooner q v i (Draw k) (draw_there k t i side li lk here own.1) l (let a = r.after in omega arith) (subst (λ y. Takes x y v) (sym here) own.0, own.1)
+        of (Mask t side) here own = sooner q v i (Draw k) (draw_there k t i side li lk here own.1) l (let a = r.after in omega arith) (subst (λ y. TakesInto x y v) (sym here) own.0, own.1)
         of (Input u) here own = dealt (Input u) here own.0 own.1
         of (At_gate t) here own = dealt (At_gate t) here own.0 own.1
         of (Output o) here own = dealt (Output o) here own.0 own.1

@@ -20,9 +20,9 @@ use Rattle.party_program.specs.declared.program.Instruction.TheVariants.{Draw, D
 use Rattle.party_program.specs.Programs.{program, at}
 use Rattle.party_program.specs.Proper.{IsMasked, IsOutput}
 use Rattle.party_program.specs.States.{slot_of}
-use Rattle.program_laws.specs.WordsRead.{gate_at, Deals, Takes, Carries, SetsSummand, ReadsSummand}
+use Rattle.program_laws.specs.WordsRead.{gate_at, Deals, TakesInto, Carries, SetsSummand, ReadsSummand}
 use Rattle.program_laws.proofs.FreeSlots.{completes_sets, joined_completes, product_completes, direct_unprepared, no_product}
-use Rattle.program_laws.proofs.ProgramParts.{Multiplied, Fits, Names, dealing, fits, is_plan}
+use Rattle.program_laws.proofs.ProgramParts.{Multiplied, Fits, NamesMessage, dealing, fits, is_plan}
 use Rattle.program_laws.proofs.SentMessages.{going}
 use Rattle.program_laws.proofs.Ranks.{named, part_at, step_at, past}
 use Rattle.share_world.proofs.GoingMessages.{Goes}
@@ -47,7 +47,7 @@ module _ (x : Session) where
     pub reads : (u : ℕ) → list_any (nat_eq u) (reads_in x z) ≡ false
     pub joins : is_join x z ≡ false
 
-  pub takes_there : (z : Slot) (v : ℕ) → Takes x z v → TakesThere z v
+  pub takes_there : (z : Slot) (v : ℕ) → TakesInto x z v → TakesThere z v
   takes_there (Input u) v e = record { complete = is_one u v e; reads = λ u. refl; joins = refl }
   takes_there (Mask t side) v e = record { complete = is_one (mask_wire x t side) v e; reads = λ u. refl; joins = refl }
   takes_there (At_gate t) v e = absurd e
@@ -137,7 +137,7 @@ module _ (plan : Plan) (sound : IsSound plan) (s p : ℕ) (ls : s < length plan.
   pub own_at : (q k : ℕ) → at es q ≡ Own k → Multiplied x (slot plan s k)
   own_at q k is = (fit q (Own k) is (λ e. cc)).1
 
-  sends_own : (n i : ℕ) → Names plan s n i → (message plan n).sender ≡ p → Sends plan s p (slot_of plan n) i
+  sends_own : (n i : ℕ) → NamesMessage plan s n i → (message plan n).sender ≡ p → Sends plan s p (slot_of plan n) i
   sends_own n i it by =
       let key : Key = message plan n in
       let here = going plan n it.number in
@@ -145,7 +145,7 @@ module _ (plan : Plan) (sound : IsSound plan) (s p : ℕ) (ls : s < length plan.
       subst (Sends plan s p (slot plan key.session key.slot)) (sym it.share) (subst (λ z. Sends plan z p (slot plan key.session key.slot) key.share) it.session (subst (λ z. Sends plan key.session z (slot plan key.session key.slot) key.share) by of_key))
 
   -- a message of the session has its slot there
-  own_slot : (n i : ℕ) → Names plan s n i → slot_of plan n ≡ slot plan s (message plan n).slot
+  own_slot : (n i : ℕ) → NamesMessage plan s n i → slot_of plan n ≡ slot plan s (message plan n).slot
   own_slot n i it = ap (λ z. slot plan z (message plan n).slot) it.session
 
   never : {A : Type 0} (n m : ℕ) → n < m → n ≡ m → A
@@ -166,7 +166,7 @@ module _ (plan : Plan) (sound : IsSound plan) (s p : ℕ) (ls : s < length plan.
     pub beyond : (u : ℕ) → slot_reads x (named plan e) u ≡ true → 1 ≤ part_at e + step_at e + past e
     pub joins : is_join x (slot plan s (named plan e)) ≡ true → (part_at e ≡ 1) × (2 ≤ step_at e + past e)
 
-  sets_taken : (e : Instruction) (v : ℕ) → named plan e < slots plan s → Takes x (slot plan s (named plan e)) v → Sets e v
+  sets_taken : (e : Instruction) (v : ℕ) → named plan e < slots plan s → TakesInto x (slot plan s (named plan e)) v → Sets e v
   sets_taken e v lk h =
       let z : Slot = slot plan s (named plan e) in
       let it = takes_there x z v h in record {
@@ -208,7 +208,7 @@ module _ (plan : Plan) (sound : IsSound plan) (s p : ℕ) (ls : s < length plan.
         beyond = λ u r. omega arith;
         joins = unless (slot plan s k) (dealt_apart (slot plan s k) v h it.1);
       }
-  sets_of q (Take n j) is v i h = let it = fit q (Take n j) is (λ e. cc) in sets_taken (Take n j) v it.slot (subst (λ z. Takes x z v) it.taken.same h.0)
+  sets_of q (Take n j) is v i h = let it = fit q (Take n j) is (λ e. cc) in sets_taken (Take n j) v it.slot (subst (λ z. TakesInto x z v) it.taken.same h.0)
   sets_of q (Linear k) is v i h =
       let it = fit q (Linear k) is (λ e. cc) in
       let t : ℕ = it.1.0 in record {

@@ -24,10 +24,10 @@ Deals s (Mask_product t) v = v ≡ product_wire s t
 Deals s _ v = ⊥
 
 -- the wire into whose summands the words that are taken in a slot are put
-abbrev pub Takes : Session → Slot → ℕ → Type 0
-Takes s (Input u) v = v ≡ u
-Takes s (Mask t side) v = v ≡ mask_wire s t side
-Takes s _ v = ⊥
+abbrev pub TakesInto : Session → Slot → ℕ → Type 0
+TakesInto s (Input u) v = v ≡ u
+TakesInto s (Mask t side) v = v ≡ mask_wire s t side
+TakesInto s _ v = ⊥
 
 -- slot k reads wire v
 abbrev pub Reads : Plan → ℕ → ℕ → ℕ → Type 0
@@ -45,9 +45,9 @@ Carries s (Kept j) v = v ≡ kept_wire s j
 
 -- the instruction of party p sets summand i of wire v, or what the party has of it before it takes the rest
 abbrev pub SetsSummand : Plan → ℕ → ℕ → Instruction → ℕ → ℕ → Type 0
-SetsSummand plan p s (Draw k) v i = Takes (session plan s) (slot plan s k) v × (holder_of plan i ≡ p)
+SetsSummand plan p s (Draw k) v i = TakesInto (session plan s) (slot plan s k) v × (holder_of plan i ≡ p)
 SetsSummand plan p s (Deal k d) v i = Deals (session plan s) (slot plan s k) v
-SetsSummand plan p s (Take n j) v i = Takes (session plan s) (taking_slot plan n) v × (i ≡ j)
+SetsSummand plan p s (Take n j) v i = TakesInto (session plan s) (taking_slot plan n) v × (i ≡ j)
 SetsSummand plan p s (Linear k) v i = v ≡ (gate_at plan s k).output
 SetsSummand plan p s (Sum k) v i = v ≡ (gate_at plan s k).output
 SetsSummand plan p s (Join k) v i = v ≡ (gate_at plan s k).output

@@ -5,11 +5,11 @@
 mod fault;
 mod head;
 mod laws;
-mod lines;
 mod message_line;
 mod messages;
 mod numbers;
 mod parts;
+mod text_lines;
 mod view_line;
 mod view_lines;
 mod written_line;

@@ -14,7 +14,7 @@ ghost use Rattle.view_check.specs.declared.fault.CheckFault.TheVariants.{Memory,
 
 use crate::fault::CheckFault;
 use crate::head::head_group;
-use crate::lines::Lines;
+use crate::text_lines::TextLines;
 use crate::view_lines::ViewLines;
 use job_plan::{Inputs, Key, Plan};
 use party_names::Names;
@@ -158,7 +158,7 @@ fn judge(
         (λ count. verdict names.now (view (world_of world.now)) text.now ≡ Ok count)
         (λ fault. (fault ≡ Memory) ⊎ (verdict names.now (view (world_of world.now)) text.now ≡ Err fault)) }
 {
-    let mut lines = Lines::of(text);
+    let mut lines = TextLines::of(text);
     let Some(head) = lines.next_line() else {
         return Err(CheckFault::BadHead);
     };

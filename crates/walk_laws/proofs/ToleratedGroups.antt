@@ -27,7 +27,7 @@ use Rattle.group_formula.specs.Trees.{Meaning, is_tolerated}
 use Rattle.group_formula.proofs.OneAnswer.{one_answer}
 use Rattle.job_file.specs.Forms.{JobForm, by_formula, by_list, adversary_form, is_version_two, job_form, lists as texts_in, mask_of, party_of, text, texts}
 use Rattle.job_file.specs.Faults.{adversary_fault, bad_in_lists, bad_name, groups_fault, is_no_party, job_in}
-use Rattle.job_file.specs.declared.field.Field.TheVariants.{Parties, Formula, Tolerated}
+use Rattle.job_file.specs.declared.field.JobField.TheVariants.{Parties, Formula, Tolerated}
 use Rattle.job_file.specs.declared.fault.JobFault.TheVariants.{BadTolerated, TooManyTolerated}
 use Rattle.job_plan.specs.Plans.{structure}
 use Rattle.job_walk.specs.Verdict.{Then, accepted}

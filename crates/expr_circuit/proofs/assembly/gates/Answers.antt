@@ -3,4 +3,4 @@ use Rattle.expr_circuit.proofs.assembly.gates.Goals as goal
 
 pub loop-at-preserved : goal.loop-at-preserved
 loop-at-preserved c =
-    gates_more c.args.inputs c.args.steps.now c.loop-at.at _ c.loop-at.gates.items c.push.new.self.items c.gate.result c.loop-at-test.true c.loop-at.invariant c.gate.ensures c.in_ok-push.ensures.items
+    gates_more c.args.inputs c.args.drafted.now c.loop-at.at _ c.loop-at.gates.items c.push.new.self.items c.gate.result c.loop-at-test.true c.loop-at.invariant c.gate.ensures c.in_ok-push.ensures.items

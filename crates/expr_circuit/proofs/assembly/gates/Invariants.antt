@@ -3,4 +3,4 @@ use Rattle.expr_circuit.specs.Circuits.{gates_from}
 use Rattle.expr_circuit.proofs.assembly.gates.Given as goal
 
 abbrev pub invariant-loop-at : goal.invariant-loop-at
-invariant-loop-at l = l.gates.items ≡ gates_from l.inputs 0 (take l.at l.steps)
+invariant-loop-at l = l.gates.items ≡ gates_from l.inputs 0 (take l.at l.drafted)

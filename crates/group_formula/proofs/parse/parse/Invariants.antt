@@ -5,7 +5,7 @@ use Rattle.group_formula.proofs.parse.parse.Given as goal
 abbrev pub invariant-loop-cut : goal.invariant-loop-cut
 invariant-loop-cut l = record {
   within : l.from ≤ length l.text;
-  going : Going l.text l.from l.nodes l.parser;
+  going : Going l.text l.from l.elements l.parser;
 }
 
 abbrev pub decreases-loop-cut : goal.decreases-loop-cut

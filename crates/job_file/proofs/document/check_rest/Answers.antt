@@ -6,7 +6,7 @@ use Rattle.toml.specs.Data.{Members}
 use Rattle.toml.specs.View.{view, table_view}
 use Rattle.toml.specs.declared.value.Value.{Value}
 use Rattle.toml_fields.specs.Fields.{items_at, fields_of}
-use Rattle.job_file.specs.declared.field.Field.TheVariants.{Parties, Session}
+use Rattle.job_file.specs.declared.field.JobField.TheVariants.{Parties, Session}
 use Rattle.job_file.specs.Forms.{is_version_two, items, tables, texts}
 use Rattle.job_file.specs.Faults.{count_fault, sessions_fault, views_fault}
 use Rattle.job_file.proofs.Rows.{at_count, at_sessions, at_last, form_rows, port_rows, last_rows, session_rows}

@@ -3,7 +3,7 @@ use Rattle.std.proofs.lemmas.Result.{err_from_is_err_and}
 use Rattle.std.specs.Option.{option_or}
 use Rattle.toml.specs.View.{view, table_view}
 use Rattle.toml_fields.specs.Fields.{items_at}
-use Rattle.job_file.specs.declared.field.Field.TheVariants.{Hosts}
+use Rattle.job_file.specs.declared.field.JobField.TheVariants.{Hosts}
 use Rattle.job_file.specs.declared.fault.JobFault.{JobFault}
 use Rattle.job_file.specs.Answers.{TellsFault}
 use Rattle.job_file.specs.Forms.{items}

@@ -3,7 +3,7 @@ use Rattle.std.specs.Option.{option_map}
 use Rattle.toml.specs.View.{table_view}
 use Rattle.toml_fields.specs.Fields.{texts_at}
 use Rattle.party_names.specs.Names.{names_fault}
-use Rattle.job_file.specs.declared.field.Field.TheVariants.{Parties}
+use Rattle.job_file.specs.declared.field.JobField.TheVariants.{Parties}
 use Rattle.job_file.specs.declared.fault.JobFault.TheVariants.{Names}
 use Rattle.job_file.specs.Forms.{texts}
 use Rattle.job_file.specs.Faults.{parties_fault}

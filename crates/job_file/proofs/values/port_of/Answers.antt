@@ -1,6 +1,6 @@
 use Rattle.std.proofs.Common.{sym}
 use Rattle.toml.specs.View.{table_view}
-use Rattle.job_file.specs.declared.field.Field.TheVariants.{Port}
+use Rattle.job_file.specs.declared.field.JobField.TheVariants.{Port}
 use Rattle.job_file.specs.Names.{field_text}
 use Rattle.job_file.proofs.Ports.{missing_number}
 use Rattle.job_file.proofs.values.port_of.Goals as goal

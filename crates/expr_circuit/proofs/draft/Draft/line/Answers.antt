@@ -8,8 +8,8 @@ returns-in-Err c = λ d keeps. line_stops (2 ^ c.args.line.now.ring) d c.args.li
 
 pub returns-in-Ok-Some : goal.returns-in-Ok-Some
 returns-in-Ok-Some c = λ d keeps.
-    becomes_same c.read.result c.read.new.self (read_in (2 ^ c.args.line.now.ring) d c.args.line.now.number c.args.line.now.text.now c.in-Ok-Some.head c.nodes.result.now) _
-    (line_some (2 ^ c.args.line.now.ring) d c.args.line.now.number c.args.line.now.text.now c.parse_line.new.parser c.nodes.result.now c.parse_line.result c.in-Ok-Some.head (c.in-Ok-Some.is ∙ ap Ok c.in-Ok-Some.field-0-is) c.nodes.ensures c.parse_line.ensures) (c.read.ensures d keeps)
+    becomes_same c.read.result c.read.new.self (read_in (2 ^ c.args.line.now.ring) d c.args.line.now.number c.args.line.now.text.now c.in-Ok-Some.head c.elements.result.now) _
+    (line_some (2 ^ c.args.line.now.ring) d c.args.line.now.number c.args.line.now.text.now c.parse_line.new.parser c.elements.result.now c.parse_line.result c.in-Ok-Some.head (c.in-Ok-Some.is ∙ ap Ok c.in-Ok-Some.field-0-is) c.elements.ensures c.parse_line.ensures) (c.read.ensures d keeps)
 
 pub returns-in-Ok-None : goal.returns-in-Ok-None
 returns-in-Ok-None c = λ d keeps. (d, line_none (2 ^ c.args.line.now.ring) d c.args.line.now.number c.args.line.now.text.now c.parse_line.new.parser c.parse_line.result (c.in-Ok-None.is ∙ ap Ok c.in-Ok-None.field-0-is) c.parse_line.ensures, keeps)

@@ -25,11 +25,11 @@ pub assemble-requires : goal.assemble-requires
 assemble-requires c =
     let d = c.requires.0 in
     let kept_so = assembled_is c.args.ring d _ c.deref-2.result.now c.len-outputs.result (c.self.view_is ∙ c.requires.1) (omega (arith, c.if-inputs-gt-MOST_VALUES.false)) (omega (arith, c.if-results-gt-MOST_VALUES.false))
-    (omega (arith, c.if-gates-results.false, c.if-results-gt-MOST_VALUES.false)) (c.deref-2.ensures.value ∙ c.in_ok-push_copies.ensures ∙ ap (λ ws. c.self.inside.steps.items ++ map copy ws) c.deref.ensures.value) (omega (arith, c.len-outputs.ensures, c.deref.ensures.len, ap length c.deref.ensures.value)) in
+    (omega (arith, c.if-gates-results.false, c.if-results-gt-MOST_VALUES.false)) (c.deref-2.ensures.value ∙ c.in_ok-push_copies.ensures ∙ ap (λ ws. c.self.inside.drafted.items ++ map copy ws) c.deref.ensures.value) (omega (arith, c.len-outputs.ensures, c.deref.ensures.len, ap length c.deref.ensures.value)) in
     subst IsCircuit (sym kept_so.1) (c.requires.2 kept_so.0)
 
 pub returns : goal.returns
 returns c = λ d is.
     let kept_so = assembled_is c.args.ring d _ c.deref-2.result.now c.len-outputs.result (c.self.view_is ∙ is) (omega (arith, c.if-inputs-gt-MOST_VALUES.false)) (omega (arith, c.if-results-gt-MOST_VALUES.false))
-    (omega (arith, c.if-gates-results.false, c.if-results-gt-MOST_VALUES.false)) (c.deref-2.ensures.value ∙ c.in_ok-push_copies.ensures ∙ ap (λ ws. c.self.inside.steps.items ++ map copy ws) c.deref.ensures.value) (omega (arith, c.len-outputs.ensures, c.deref.ensures.len, ap length c.deref.ensures.value)) in
+    (omega (arith, c.if-gates-results.false, c.if-results-gt-MOST_VALUES.false)) (c.deref-2.ensures.value ∙ c.in_ok-push_copies.ensures ∙ ap (λ ws. c.self.inside.drafted.items ++ map copy ws) c.deref.ensures.value) (omega (arith, c.len-outputs.ensures, c.deref.ensures.len, ap length c.deref.ensures.value)) in
     small_answer c.args.ring d kept_so.0 ∙ ap Ok (sym (c.in_ok-assemble.ensures ∙ kept_so.1))

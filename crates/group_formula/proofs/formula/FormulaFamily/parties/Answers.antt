@@ -8,4 +8,4 @@ use Rattle.group_formula.proofs.formula.FormulaFamily.parties.Goals as goal
 pub returns-clause-family : goal.returns-clause-family
 returns-clause-family c =
     subst (λ (f : Meaning). IsFamily f.parties (is_tolerated f)) c.self.view_is
-    (family_of (record { parties = c.self.inside.parties; tree = tree_of c.self.inside.nodes.items }) c.self.invariant.sound)
+    (family_of (record { parties = c.self.inside.parties; tree = tree_of c.self.inside.elements.items }) c.self.invariant.sound)

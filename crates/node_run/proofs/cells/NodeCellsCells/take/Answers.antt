@@ -3,7 +3,7 @@ use Rattle.std.specs.Prelude.{◌%◌, ◌^◌, slice_index}
 use Rattle.message_board.specs.Pairs.{Knows}
 use Rattle.message_board.specs.Plain.{plain_cell, plain_put}
 use Rattle.job_plan.specs.Numbers.{message}
-use Rattle.node_run.specs.Mail.{Mail, ComesFromPeer, MayTake, Takes, box_of}
+use Rattle.node_run.specs.Mail.{Mail, ComesFromPeer, MayTake, TakesWord, box_of}
 use Rattle.node_run.proofs.CellChanges.{missing_peer, still_may, words_stay, looked_may, looked_known, is_read, cells_are, with_word, word_kept, word_count, takes_found, no_word}
 use Rattle.node_run.proofs.cells.NodeCellsCells.take.Goals as goal
 
@@ -21,7 +21,7 @@ returns-clause-took g c =
     let reduced : c.reduce-reduced.result ≡ c.in-Some-look.found % 2 ^ c.self-2.inside.plan.now.bits = c.reduce-reduced.ensures.is ∙ ap (λ b. c.in-Some-look.found % 2 ^ b) c.ring.ensures.is in
     let empty : plain_cell c.self-2.inside.words.cells c.args.number ≡ None =
     ap (λ (z : Mail). plain_cell z.words.cells c.args.number) (c.self-2.view_is ∙ c.in-Some-look.ensures.rest) ∙ ap (λ (z : Mail). plain_cell z.words.cells c.args.number) (sym c.self.view_is) ∙ sym c.cell.ensures.is ∙ no_word c.cell.result c.in_default.not-Some in
-    subst (λ (z : Mail). Takes c.args.self.now c.args.number (Some c.reduce-reduced.result) (record z { words = c.post.new.self })) (sym c.self-2.view_is)
+    subst (λ (z : Mail). TakesWord c.args.self.now c.args.number (Some c.reduce-reduced.result) (record z { words = c.post.new.self })) (sym c.self-2.view_is)
     (takes_found c.args.self.now c.look.new.self c.args.number c.in-Some-look.found c.reduce-reduced.result c.post.new.self
     (ap (λ (z : Mail). plain_cell z.words.cells c.args.number) (sym c.self.view_is) ∙ sym c.cell.ensures.is ∙ no_word c.cell.result c.in_default.not-Some)
     (reduced ∙ ap (λ (z : Mail). c.in-Some-look.found % 2 ^ z.plan.bits) (c.self-2.view_is ∙ c.in-Some-look.ensures.rest)) c.in-Some-look.ensures
