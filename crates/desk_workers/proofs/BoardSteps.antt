@@ -17,7 +17,7 @@ use Rattle.party_desk.specs.declared.desk.Desk.{Desk}
 use Rattle.party_desk.specs.declared.desk.Stepped.{Stepped}
 use Rattle.party_desk.specs.declared.desk.Stepped.TheVariants.{Moved, NotYet, Ended}
 use Rattle.party_desk.specs.Desks.{instruction_at}
-use Rattle.party_desk.proofs.GatePosts.{post_view}
+use Rattle.desk_walks.proofs.GatePosts.{post_view}
 use Rattle.program_laws.specs.Lawful.{given_to, program_of}
 use Rattle.program_laws.proofs.LawfulWorlds.{lawful}
 use Rattle.message_board.specs.declared.seat_at.SeatAt.{SeatAt}

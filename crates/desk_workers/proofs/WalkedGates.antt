@@ -16,7 +16,7 @@ use Rattle.party_program.specs.States.{Given}
 use Rattle.party_desk.specs.declared.desk.Desk.{Desk}
 use Rattle.party_desk.specs.Desks.{IsDesk}
 use Rattle.party_desk.specs.Steps as steps
-use Rattle.party_desk.specs.Walks.{MayWalk, HasWords, Walks}
+use Rattle.desk_walks.specs.Walks.{MayWalk, HasWords, Walks}
 use Rattle.program_laws.specs.Lawful.{given_to, Lawful}
 use Rattle.program_laws.proofs.LawfulWorlds.{lawful}
 use Rattle.desk_workers.specs.declared.promised.Promised.{Promised}

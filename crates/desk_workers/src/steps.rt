@@ -6,6 +6,7 @@ ghost use Rattle.desk_workers.specs.Pools.{IsPool, IsDeskOf, LeadsOn, IsStuck};
 
 use crate::promised::Promised;
 use desk_laws::step_in_world;
+use desk_walks::walk_gates;
 use job_plan::Plan;
 use message_board::{Board, BoardSeat, SeatAt};
 use outer_io::Pace;
@@ -97,7 +98,7 @@ fn goes_far<P: Pace>(
     ensures stuck { result ≡ 0 → IsStuck board.now seat.old desk.old }
 {
     pace.before(turn.worker, turn.desk);
-    let walked = desk.walk_gates(plan, board, seat);
+    let walked = walk_gates(desk, plan, board, seat);
     if walked > 0 {
         return u64::from(walked);
     }

@@ -28,7 +28,7 @@ use Rattle.program_laws.proofs.GateReads.{product_reads}
 use Rattle.program_laws.proofs.ProgramParts.{Multiplied, fits}
 use Rattle.program_laws.proofs.SetWords.{own_row, read_is_held, reads_are_set}
 use Rattle.share_world.proofs.Settled.{is_first, is_second}
-use Rattle.party_desk.specs.Rows.{row, SameRow, SameRows}
+use Rattle.row_steps.specs.Rows.{row, SameRow}
 use Rattle.party_program.specs.ProgramPlaces.{IsPlace, IsProgram}
 use Rattle.party_program.specs.States.{Given, State, taking_slot, state, next, word_after, dealt_in, drawn_in, joined_in, opened_in, took_in}
 use Rattle.party_desk.specs.declared.memory.Memory.{Memory}
@@ -38,12 +38,6 @@ use Rattle.party_desk.proofs.RememberedWords.{SameRead, goes_on}
 use Rattle.party_desk.proofs.StateSteps.{IsWordOf, ReadsByGate}
 use Rattle.party_program.specs.Proper.{Deals, IsMask, Proper, IsGivenWord, drawn_by}
 use Rattle.circuit_model.proofs.SetAt.{set_here, set_there}
-
-pub set_same : (m : ℕ) (f g : ℕ → ℕ → ℕ) (v : ℕ) (x y : ℕ → ℕ) → SameRows m f g → SameRow m x y → SameRows m (set_at f v x) (set_at g v y)
-set_same m f g v x y same row u i li = elim (cases_eq u v) [
-  | inl e ↦ ap (λ z. z i) (set_here f v u x e) ∙ row i li ∙ sym (ap (λ z. z i) (set_here g v u y e))
-  | inr ne ↦ ap (λ z. z i) (set_there f v u x ne) ∙ same u i li ∙ sym (ap (λ z. z i) (set_there g v u y ne))
-]
 
 pub set_row_same : {A : Type 0} (P : ℕ → Type 0) (f g : ℕ → A) (v : ℕ) (x y : A) → ((u : ℕ) → P u → f u ≡ g u) → x ≡ y → (u : ℕ) → P u → set_at f v x u ≡ set_at g v y u
 set_row_same P f g v x y same e u h = elim (cases_eq u v) [

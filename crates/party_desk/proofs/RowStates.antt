@@ -13,7 +13,7 @@ use Rattle.job_plan.specs.Plans.{Plan, session}
 use Rattle.party_program.specs.Proper.{Multiplies}
 use Rattle.party_program.specs.States.{State, computed, dealt_as, dealt_in, posted, took_in}
 use Rattle.party_desk.specs.Memories.{added, into_rows, on_rows, on_wires, Alike}
-use Rattle.party_desk.specs.Rows.{FillsRow, SameRows, gate_on_rows, row}
+use Rattle.row_steps.specs.Rows.{FillsRow, SameRows, gate_on_rows, row}
 
 -- the new summands of one wire go into its row
 pub put_new : (row_of : ℕ → ℕ) (v : ℕ) (new : ℕ → ℕ) (wires rows : ℕ → ℕ → ℕ) → set_at rows (row_of v) new ≡ into_rows row_of (v ∷ []) (set_at wires v new) rows

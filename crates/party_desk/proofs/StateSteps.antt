@@ -29,7 +29,7 @@ use Rattle.program_laws.proofs.GateReads.{local_same}
 use Rattle.program_laws.proofs.SetWords.{Finishes}
 use Rattle.share_world.proofs.Settled.{is_first, is_one, is_second}
 use Rattle.party_desk.specs.Desks.{wires_set}
-use Rattle.party_desk.specs.Rows.{SameRow}
+use Rattle.row_steps.specs.Rows.{SameRow}
 
 -- ---- sums of what a party holds
 

@@ -23,8 +23,8 @@ walk_gates-walked-requires-clause-may g c =
 pub returns-then-walked-gt0-clause-leads : goal.returns-then-walked-gt0-clause-leads
 returns-then-walked-gt0-clause-leads g c k h =
     let w = world_in c.args.board.now.about.world in
-    subst (λ n. Leads w k c.args.seat.now c.args.desk.now c.walk_gates-walked.new.seat c.walk_gates-walked.new.self n) (sym c.from.ensures)
-    (gates_lead w c.requires.pool.whole k c.args.desk.now h.desk c.args.plan.now c.args.seat.now c.walk_gates-walked.new.seat c.walk_gates-walked.new.self c.walk_gates-walked.result c.requires.pool.same h
+    subst (λ n. Leads w k c.args.seat.now c.args.desk.now c.walk_gates-walked.new.seat c.walk_gates-walked.new.desk n) (sym c.from.ensures)
+    (gates_lead w c.requires.pool.whole k c.args.desk.now h.desk c.args.plan.now c.args.seat.now c.walk_gates-walked.new.seat c.walk_gates-walked.new.desk c.walk_gates-walked.result c.requires.pool.same h
     (c.walk_gates-walked.ensures.walks (given_to w k)) c.walk_gates-walked.ensures.moves c.walk_gates-walked.ensures.still)
 
 pub goes_on-requires-clause-desk : goal.goes_on-requires-clause-desk
@@ -32,7 +32,7 @@ goes_on-requires-clause-desk g c =
     let w = world_in c.args.board.now.about.world in
     let k = c.requires.desk.0 in
     let h = c.requires.desk.1 in
-    let walked = gates_lead w c.requires.pool.whole k c.args.desk.now h.desk c.args.plan.now c.args.seat.now c.walk_gates-walked.new.seat c.walk_gates-walked.new.self c.walk_gates-walked.result c.requires.pool.same h
+    let walked = gates_lead w c.requires.pool.whole k c.args.desk.now h.desk c.args.plan.now c.args.seat.now c.walk_gates-walked.new.seat c.walk_gates-walked.new.desk c.walk_gates-walked.result c.requires.pool.same h
     (c.walk_gates-walked.ensures.walks (given_to w k)) c.walk_gates-walked.ensures.moves c.walk_gates-walked.ensures.still in
     (k, walked.stands)
 
@@ -40,19 +40,19 @@ pub returns-clause-leads : goal.returns-clause-leads
 returns-clause-leads g c k h =
     let w = world_in c.args.board.now.about.world in
     let n = c.walk_gates-walked.result in
-    let walked = gates_lead w c.requires.pool.whole k c.args.desk.now h.desk c.args.plan.now c.args.seat.now c.walk_gates-walked.new.seat c.walk_gates-walked.new.self n c.requires.pool.same h
+    let walked = gates_lead w c.requires.pool.whole k c.args.desk.now h.desk c.args.plan.now c.args.seat.now c.walk_gates-walked.new.seat c.walk_gates-walked.new.desk n c.requires.pool.same h
     (c.walk_gates-walked.ensures.walks (given_to w k)) c.walk_gates-walked.ensures.moves c.walk_gates-walked.ensures.still in
-    let step : Leads w k c.walk_gates-walked.new.seat c.walk_gates-walked.new.self c.goes_on.new.seat c.goes_on.new.desk c.from-2.result =
-    subst (Leads w k c.walk_gates-walked.new.seat c.walk_gates-walked.new.self c.goes_on.new.seat c.goes_on.new.desk) (sym (c.from-2.ensures ∙ as_number c.goes_on.result)) (c.goes_on.ensures.leads k walked.stands) in
+    let step : Leads w k c.walk_gates-walked.new.seat c.walk_gates-walked.new.desk c.goes_on.new.seat c.goes_on.new.desk c.from-2.result =
+    subst (Leads w k c.walk_gates-walked.new.seat c.walk_gates-walked.new.desk c.goes_on.new.seat c.goes_on.new.desk) (sym (c.from-2.ensures ∙ as_number c.goes_on.result)) (c.goes_on.ensures.leads k walked.stands) in
     let all : n + c.from-2.result ≡ c.from-2.result = omega (arith, c.if-walked-gt0.false) in
     subst (Leads w k c.args.seat.now c.args.desk.now c.goes_on.new.seat c.goes_on.new.desk) all
-    (follows w k c.args.seat.now c.walk_gates-walked.new.seat c.goes_on.new.seat c.args.desk.now c.walk_gates-walked.new.self c.goes_on.new.desk n c.from-2.result walked step)
+    (follows w k c.args.seat.now c.walk_gates-walked.new.seat c.goes_on.new.seat c.args.desk.now c.walk_gates-walked.new.desk c.goes_on.new.desk n c.from-2.result walked step)
 
 pub returns-clause-stuck : goal.returns-clause-stuck
 returns-clause-stuck g c none k h =
     let w = world_in c.args.board.now.about.world in
     let n = c.walk_gates-walked.result in
-    let walked = gates_lead w c.requires.pool.whole k c.args.desk.now h.desk c.args.plan.now c.args.seat.now c.walk_gates-walked.new.seat c.walk_gates-walked.new.self n c.requires.pool.same h
+    let walked = gates_lead w c.requires.pool.whole k c.args.desk.now h.desk c.args.plan.now c.args.seat.now c.walk_gates-walked.new.seat c.walk_gates-walked.new.desk n c.requires.pool.same h
     (c.walk_gates-walked.ensures.walks (given_to w k)) c.walk_gates-walked.ensures.moves c.walk_gates-walked.ensures.still in
     let same = c.walk_gates-walked.ensures.still (omega (arith, c.if-walked-gt0.false)) in
     stuck_less c.args.seat.now.view.seen c.walk_gates-walked.new.seat.view.seen w k c.args.desk.now.position walked.grows

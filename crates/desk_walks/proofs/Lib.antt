@@ -1,0 +1,10 @@
+pub mod GateWalks
+pub mod ComputedGates
+pub mod ProductSteps
+pub mod GatePlaces
+pub mod GateRuns
+pub mod LinearGates
+pub mod OwnProducts
+pub mod GatePosts
+pub mod BesideSteps
+pub mod SeatSteps

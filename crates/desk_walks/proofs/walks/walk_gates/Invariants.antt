@@ -1,0 +1,19 @@
+use Rattle.std.proofs.Common.{◌≡◌, ◌+◌, ◌-◌, false, if◌then◌else◌}
+use Rattle.message_board.specs.Seats.{IsSeatOf}
+use Rattle.party_program.specs.States.{Given}
+use Rattle.desk_walks.specs.Walks.{MayWalk, HasLooked, NothingToCompute, Walks}
+use Rattle.desk_walks.proofs.walks.walk_gates.Given as goal
+
+abbrev pub invariant-loop-goes : goal.invariant-loop-goes
+invariant-loop-goes g l =
+    IsSeatOf l.board l.seat
+    × ((given : Given) → MayWalk l.plan (g.W.Promise.list l.board.about.world) given l.fn.desk
+    → Walks given l.fn.seat l.fn.desk l.seat l.desk)
+    × (l.desk.position ≡ l.fn.desk.position → l.desk ≡ l.fn.desk)
+    × (l.goes ≡ false → (given : Given) → MayWalk l.plan (g.W.Promise.list l.board.about.world) given l.fn.desk
+    → NothingToCompute given l.desk)
+    × (l.goes ≡ false → (given : Given) → MayWalk l.plan (g.W.Promise.list l.board.about.world) given l.fn.desk
+    → HasLooked given l.seat l.desk)
+
+abbrev pub decreases-loop-goes : goal.decreases-loop-goes
+decreases-loop-goes g l = 4294967296 - l.desk.position + (if l.goes then 1 else 0)

@@ -1,5 +1,0 @@
-use Rattle.std.proofs.Common.{arith}
-use Rattle.party_desk.proofs.desk.Desk.goes_beside.Goals as goal
-
-pub returns-clause-still : goal.returns-clause-still
-returns-clause-still g c same = absurd (let more = c.step_on.ensures.on c.if-not-step_on.false in omega (arith, more, same))

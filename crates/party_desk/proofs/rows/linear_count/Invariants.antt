@@ -1,8 +1,0 @@
-use Rattle.std.proofs.Common.{◌≡◌, ℕ, ◌<◌, false}
-use Rattle.circuit_model.specs.Circuits.{is_product}
-use Rattle.party_desk.specs.Rows.{gate_in}
-use Rattle.party_desk.proofs.rows.linear_count.Given as goal
-
-abbrev pub invariant-loop-gate : goal.invariant-loop-gate
-invariant-loop-gate l =
-    (l.count ≡ l.gate-index) × ((t : ℕ) → t < l.gate-index → is_product (gate_in l.gates t).operation ≡ false)

@@ -1,0 +1,2 @@
+pub mod RowWrites
+pub mod RingSums
