@@ -281,8 +281,6 @@ LIBRARY = {
     'std.specs.Fmt.signed_decimal': 'the decimal digits of an integer, with a dash where it is below 0',
     'std.specs.Arc.arc_value': 'what is shared by an `Arc`',
     'hex.specs.Hex.decode_sized': '`decode_sized text n`: the n bytes that 2n hexadecimal digits write, or a fault',
-    'indexmap.specs.IndexMap.IndexMap': 'a map that keeps the order of its entries; `get` is the value of a key',
-    'indexmap.specs.IndexMap.get': 'the value of a key, if there is one',
     'rand_chacha.specs.ChaCha.key_of': 'the key of a seed of 32 bytes',
     'rand_chacha.specs.ChaCha.word_at': 'a 32-bit word of a ChaCha stream: the double rounds, the key, the stream, the place',
     'sha2.specs.Sha256.sha256': 'the SHA-256 of bytes',

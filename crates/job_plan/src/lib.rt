@@ -13,6 +13,7 @@ mod pattern_transfers;
 mod patterns;
 mod plan;
 mod ranks;
+mod readers;
 mod starts;
 mod transfers;
 

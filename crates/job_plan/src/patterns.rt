@@ -1,10 +1,9 @@
 //! The patterns of a plan.
-ghost use Rattle.std.specs.Prelude.{◌≡◌, ℕ, ◌<◌, IfOk, OnOk, length, slice_index};
+ghost use Rattle.std.specs.Prelude.{◌≡◌, ℕ, IfOk, map};
+ghost use Rattle.std.specs.List.{Contains};
 ghost use Rattle.list_laws.specs.Lists.{listed};
-ghost use Rattle.session_slots.specs.Sessions.{readers};
-ghost use Rattle.job_plan.specs.Plans.{session};
-ghost use Rattle.job_plan.specs.Patterns.{deal_transfers, IsReadBy};
-ghost use Rattle.job_plan.specs.Tables.{AreOpenings, HasOpening};
+ghost use Rattle.job_plan.specs.Patterns.{deal_transfers, transfers, IsReadBy};
+ghost use Rattle.job_plan.specs.declared.pattern.Pattern.TheVariants.{Opened};
 
 use crate::outline::Outline;
 use crate::pattern::{Pattern, Transfer};
@@ -12,8 +11,9 @@ use crate::pattern_transfers::{
     dealt_transfers, handed_out_transfers, held_transfers, multiplied_transfers,
     opened_to_all_transfers, opened_transfers,
 };
+use crate::readers::add_readers;
 use crate::transfers::Transfers;
-use indexmap::IndexMap;
+use mask_list::MaskList;
 use std::alloc::{AllocError, Global};
 
 /// The transfers of each pattern that the slots of a plan may have: of a product, of a mask, of an opening to all, of a
@@ -26,8 +26,9 @@ pub(crate) struct Patterns {
     held: Transfers,
     // By party.
     deals: Vec<Transfers>,
-    // By the readers' mask.
-    openings: IndexMap<u32, Transfers>,
+    // The groups that read an output, and by their places the transfers of an opening to each.
+    readers: MaskList,
+    openings: Vec<Transfers>,
 }
 
 impl Patterns {
@@ -45,13 +46,15 @@ impl Patterns {
         let opened_to_all = opened_to_all_transfers(alloc, outline)?;
         let held = held_transfers(alloc, outline)?;
         let deals = deals_of_each(alloc, outline)?;
-        let openings = openings_of_each(alloc, outline)?;
+        let readers = readers_of_all(alloc, outline)?;
+        let openings = openings_to_each(alloc, outline, readers.as_slice())?;
         Ok(Patterns {
             product,
             handed_out,
             opened_to_all,
             held,
             deals,
+            readers,
             openings,
         })
     }
@@ -81,7 +84,7 @@ impl Patterns {
         ensures { (plan : Plan) → AreTransfers plan self.now → Occurs plan (Opened readers)
             → result.now ≡ transfers plan (Opened readers) }
     {
-        self.openings[&readers].as_slice()
+        self.openings[self.readers.place(readers)].as_slice()
     }
 }
 
@@ -96,58 +99,28 @@ fn deals_of_each(alloc: Global, outline: &Outline) -> Result<Vec<Transfers>, All
     Ok(list)
 }
 
-// The transfers of an opening to each group that reads an output.
-fn openings_of_each(
-    alloc: Global,
-    outline: &Outline,
-) -> Result<IndexMap<u32, Transfers>, AllocError>
-    ensures { IfOk result (λ made. (mask : ℕ) → IsReadBy outline.now mask → HasOpening outline.now made mask) }
+// The groups that read an output.
+fn readers_of_all(alloc: Global, outline: &Outline) -> Result<MaskList, AllocError>
+    ensures { IfOk result (λ masks. (mask : ℕ) → IsReadBy outline.now mask → Contains masks mask) }
 {
-    let mut openings = IndexMap::new(alloc);
+    let mut masks = MaskList::new(alloc);
     for s in 0..outline.sessions() {
-        add_openings(alloc, outline, s, &mut openings)?;
+        add_readers(outline, s, &mut masks)?;
     }
-    Ok(openings)
+    Ok(masks)
 }
 
-// Adds the openings of session s.
-fn add_openings(
+// The transfers of an opening to each of these groups.
+fn openings_to_each(
     alloc: Global,
     outline: &Outline,
-    s: u32,
-    openings: &mut IndexMap<u32, Transfers>,
-) -> Result<(), AllocError>
-    requires session { s < length outline.now.sessions }
-    requires before { AreOpenings outline.now openings.old }
-    ensures openings { OnOk result (AreOpenings outline.now openings.new) }
-    ensures others { OnOk result ((mask : ℕ) → HasOpening outline.now openings.old mask
-        → HasOpening outline.now openings.new mask) }
-    ensures added { OnOk result ((o : ℕ) → o < length (readers (session outline.now s))
-        → HasOpening outline.now openings.new (slice_index (readers (session outline.now s)) o)) }
+    readers: &[u32],
+) -> Result<Vec<Transfers>, AllocError>
+    ensures { IfOk result (λ made. made.items ≡ map (λ mask. transfers outline.now (Opened mask)) readers.now) }
 {
-    let part = outline.part(s);
-    for o in 0..part.output_wires() as u32 {
-        add_opening(alloc, outline, part.wire_readers(o), openings)?;
+    let mut list = Vec::new(alloc);
+    for mask in readers {
+        list.push(opened_transfers(alloc, outline, *mask)?)?;
     }
-    Ok(())
-}
-
-// Adds the opening to these readers, if it isn't there.
-fn add_opening(
-    alloc: Global,
-    outline: &Outline,
-    readers: u32,
-    openings: &mut IndexMap<u32, Transfers>,
-) -> Result<(), AllocError>
-    requires before { AreOpenings outline.now openings.old }
-    ensures openings { OnOk result (AreOpenings outline.now openings.new) }
-    ensures others { OnOk result ((mask : ℕ) → HasOpening outline.now openings.old mask
-        → HasOpening outline.now openings.new mask) }
-    ensures added { OnOk result (HasOpening outline.now openings.new readers) }
-{
-    if !openings.contains_key(&readers) {
-        let transfers = opened_transfers(alloc, outline, readers)?;
-        openings.insert(readers, transfers)?;
-    }
-    Ok(())
+    Ok(list)
 }

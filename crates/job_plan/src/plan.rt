@@ -13,9 +13,11 @@ use crate::outline::Outline;
 use crate::pattern::{Pattern, Transfer};
 use crate::patterns::Patterns;
 use crate::ranks::search;
+use crate::readers::add_readers;
 use crate::starts::Starts;
 use job_limits::{MOST_MESSAGES, MOST_SESSIONS, MOST_WORDS};
 use job_session::{RowTable, SessionPart};
+use mask_list::MaskList;
 use mpc_ring::Ring;
 use party_set::MOST_GROUPS;
 use plan_faults::PlanFault;
@@ -52,8 +54,10 @@ impl Plan {
     ghost use Rattle.std.specs.Prelude.{◌≡◌, ℕ, ◌+◌, ◌-◌, ◌*◌, ◌<◌, ◌≤◌, true, if◌then◌else◌, map, length};
     ghost use Rattle.std.specs.Prelude.{All, IfOk, IfErr, OnOk, SomeIff};
     ghost use Rattle.std.specs.Arc.{arc_value};
+    ghost use Rattle.mask_list.specs.Masks.{AreMasksOf};
     ghost use Rattle.job_session.specs.Rows.{IsRows};
     ghost use Rattle.session_slots.specs.KeptWires.{live};
+    ghost use Rattle.session_slots.specs.Sessions.{readers};
     ghost use Rattle.job_plan.specs.Plans.{plan_of, structure, scheme, session, slot, slots, deals_in};
     ghost use Rattle.job_plan.specs.Plans.{words, place, random_place, least_held};
     ghost use Rattle.secret_sharing.specs.Schemes.{has_pair};
@@ -139,6 +143,16 @@ impl Plan {
         ensures { result.now ≡ session self.now s }
     {
         self.outline.part(s)
+    }
+
+    /// The groups that read outputs of session `s`.
+    pub fn readers(&self, alloc: Global, s: u32) -> Result<MaskList, AllocError>
+        requires { s < length self.now.sessions }
+        ensures { IfOk result (λ masks. AreMasksOf masks (readers (session self.now s))) }
+    {
+        let mut masks = MaskList::new(alloc);
+        add_readers(&self.outline, s, &mut masks)?;
+        Ok(masks)
     }
 
     /// How many wires session `s` keeps at once, where it keeps most.

@@ -1,13 +1,12 @@
 -- The slots whose messages are taken in a slot.
-use Rattle.std.proofs.Common.{◌≡◌, ℕ, ◌<◌, ◌≤◌, Bool, true, false, nat_eq, length, refl, sym, ap, ◌∙◌, arith}
-use Rattle.std.specs.Prelude.{Some}
+use Rattle.std.proofs.Common.{◌≡◌, ℕ, ◌+◌, ◌<◌, ◌≤◌, Bool, true, false, List, length, refl, sym, ap, ◌∙◌, arith}
 use Rattle.std.proofs.lemmas.List.{get_or_past}
-use Rattle.indexmap.specs.IndexMap.{IndexMap, get}
 use Rattle.circuit_model.specs.Circuits.{is_product}
 use Rattle.session_slots.specs.declared.source.Source.{Source}
 use Rattle.session_slots.specs.declared.source.Source.TheVariants.{Given, Earlier}
 use Rattle.session_slots.specs.Sessions.{Slot, gate, readers, slot_list, source}
 use Rattle.session_slots.specs.Sessions.Slot.{Input, At_gate, Output, Mask, Mask_product, Masked, Kept}
+use Rattle.session_slots.specs.SlotNumbers.{first_input}
 use Rattle.job_plan.specs.declared.pattern.Pattern.TheVariants.{Received}
 use Rattle.job_plan.specs.Plans.{IsPlan, Plan, keeping_slot, session, slot, slot_number, slots}
 use Rattle.job_plan.specs.Firsts.{count, first}
@@ -18,7 +17,7 @@ use Rattle.job_plan.proofs.KeptPlaces.{kept_in}
 use Rattle.job_plan.proofs.SlotMessages.{first_within}
 use Rattle.job_plan.proofs.Slots.{at_its_number}
 use Rattle.party_program.specs.Programs.{first_in, first_named, first_of_input}
-use Rattle.party_program.specs.ProgramPlaces.{AreReceived}
+use Rattle.party_program.specs.ProgramPlaces.{AreReceived, IsListed}
 use Rattle.party_program.proofs.FewTransfers.{held_few}
 use Rattle.party_program.proofs.FollowedPatterns.{gate_pattern, length-transfers}
 
@@ -88,16 +87,23 @@ module _ (plan : Plan) (s : ℕ) where
   pub named_past : (k : ℕ) → slots plan s ≤ k → first_named plan s k ≡ first plan s k
   named_past k past = ap (first_in plan s k) (get_or_past (slot_list (session plan s)) k (Output (length (readers (session plan s)))) past)
 
--- what a table of received wires has for a slot that is one
-module _ {S : Type 0} (plan : Plan) (is : IsPlan plan) (s k : ℕ) (lk : k < slots plan s) (received : IndexMap ℕ ℕ S) (are : AreReceived plan s s received) (carried : pattern_at plan s k ≡ Received) where
-  pub found_named : get nat_eq received k ≡ Some (first_named plan s k)
-  found_named =
-      let at = received_at plan s (slot plan s k) carried in
-      let r = at.from in
-      let earlier : r < s = is.earlier s at.wire r at.value at.place at.carried in
-      let key : k ≡ slot_number plan s (Input at.wire) = sym (at_its_number plan s k lk) ∙ ap (slot_number plan s) at.slot_is in
-      ap (get nat_eq received) key ∙ are at.wire r at.value at.place earlier at.carried
-      ∙ ap Some (sym (ap (first_in plan s k) at.slot_is ∙ ap (first_of_input plan s k at.wire) at.carried))
+-- what a list of received wires has for the wire of a slot in which one is received
+module _ (plan : Plan) (is : IsPlan plan) (s k : ℕ) (lk : k < slots plan s) (carried : pattern_at plan s k ≡ Received) where
+  at : IsReceivedAt plan s (slot plan s k)
+  at = received_at plan s (slot plan s k) carried
+
+  pub wire_of : ℕ
+  wire_of = at.wire
+
+  pub found_number : k ≡ first_input (session plan s) + wire_of
+  unfolding wire_of
+  found_number = sym (at_its_number plan s k lk) ∙ ap (slot_number plan s) at.slot_is
+
+  pub found_named : (received : List ℕ) → AreReceived plan s s received → IsListed received wire_of (first_named plan s k)
+  unfolding wire_of
+  found_named received are =
+      let listed = are at.wire at.from at.value at.place (is.earlier s at.wire at.from at.value at.place at.carried) at.carried in
+      (listed.0, listed.1 ∙ sym (ap (first_in plan s k) at.slot_is ∙ ap (first_of_input plan s k at.wire) at.carried))
 
 -- a wire is kept by few messages
 pub few_kept : (plan : Plan) → IsPlan plan → IsSound plan → (s v r c i : ℕ) → source (session plan s) v ≡ Earlier r c i → count plan r (keeping_slot plan s v r) ≤ 768

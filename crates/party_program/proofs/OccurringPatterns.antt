@@ -1,13 +1,16 @@
 -- The patterns of a session's slots.
-use Rattle.std.proofs.Common.{◌≡◌, ℕ, ◌+◌, ◌<◌, ◌≤◌, Bool, true, false, not, ◌&&◌, List, length, refl, sym, ap, ◌∙◌, subst, arith}
+use Rattle.std.proofs.Common.{◌≡◌, ℕ, ◌<◌, Bool, true, false, not, ◌&&◌, List, length, refl, sym, ap, ◌∙◌, subst}
+use Rattle.std.specs.Prelude.{slice_index}
+use Rattle.std.specs.List.{Contains}
+use Rattle.std.proofs.lemmas.List.{get_or_default}
+use Rattle.std.proofs.lemmas.List.Elements.{Contains-get_or}
 use Rattle.circuit_model.specs.Circuits.{is_product}
 use Rattle.secret_sharing.specs.Schemes.{has_pair}
 use Rattle.job_plan.specs.declared.pattern.Pattern.{Pattern}
 use Rattle.job_plan.specs.declared.pattern.Pattern.TheVariants.{Opened}
 use Rattle.session_slots.specs.declared.source.Source.{Source}
 use Rattle.session_slots.specs.declared.source.Source.TheVariants.{Given, Earlier}
-use Rattle.session_slots.specs.Sessions.{Slot, gate, given_by, readers_of, source}
-use Rattle.session_slots.specs.SlotNumbers.{first_of_gate, session_slot_number}
+use Rattle.session_slots.specs.Sessions.{Slot, gate, given_by, readers, source}
 use Rattle.session_slots.specs.SoundSessions.{Inside}
 use Rattle.job_plan.specs.Plans.{Plan, scheme, session, slots, deals_in}
 use Rattle.session_slots.specs.Sessions.Slot.{Input, At_gate, Output, Mask, Mask_product, Masked, Kept}
@@ -73,30 +76,32 @@ module _ (plan : Plan) (s : ℕ) where
   deals_by_pattern p (Masked t side) = refl
   deals_by_pattern p (Kept j) = refl
 
-  -- where the outputs begin
-  abbrev pub first_output : ℕ
-  first_output = first_of_gate (session plan s) (length (session plan s).gates)
-
-  -- only outputs are opened to readers
-  pub opened_last : (k readers : ℕ) → k < slots plan s → pattern_at plan s k ≡ Opened readers → (first_output ≤ k) × (k < first_output + length (readers_of (session plan s).outputs))
-  opened_last k readers = slot_kinds (session plan s) (λ k z. pattern plan s z ≡ Opened readers → (first_output ≤ k) × (k < first_output + length (readers_of (session plan s).outputs))) by_kind k
+  -- only an output is opened, to its readers
+  pub opened_to : (k mask : ℕ) → k < slots plan s → pattern_at plan s k ≡ Opened mask → Contains (readers (session plan s)) mask
+  opened_to k mask = slot_kinds (session plan s) (λ k z. pattern plan s z ≡ Opened mask → Contains (readers (session plan s)) mask) by_kind k
     where
-      not_opened : (prepared product : Bool) → gate_pattern prepared product ≡ Opened readers → ⊥
+      not_opened : (prepared product : Bool) → gate_pattern prepared product ≡ Opened mask → ⊥
       not_opened true true e = absurd cc
       not_opened true false e = absurd cc
       not_opened false true e = absurd cc
       not_opened false false e = absurd cc
 
-      input_not : (from : Source) → input_pattern from ≡ Opened readers → ⊥
+      input_not : (from : Source) → input_pattern from ≡ Opened mask → ⊥
       input_not (Given p) e = absurd cc
       input_not (Earlier r c i) e = absurd cc
 
-      by_kind : (z : Slot) → Inside (session plan s) z → pattern plan s z ≡ Opened readers
-          → (first_output ≤ session_slot_number (session plan s) z) × (session_slot_number (session plan s) z < first_output + length (readers_of (session plan s).outputs))
+      by_kind : (z : Slot) → Inside (session plan s) z → pattern plan s z ≡ Opened mask → Contains (readers (session plan s)) mask
       by_kind (Input v) l e = absurd (input_not (source (session plan s) v) e)
       by_kind (At_gate t) l e = absurd (not_opened (session plan s).prepared (is_product (gate (session plan s) t).operation) e)
-      by_kind (Output o) l e = (omega (arith, l), omega (arith, l))
+      by_kind (Output o) l e =
+          let its : slice_index (readers (session plan s)) o ≡ mask = cc in
+          subst (λ (mask : ℕ). Contains (readers (session plan s)) mask) its (Contains-get_or (readers (session plan s)) o 0 l)
       by_kind (Mask t side) l e = absurd cc
       by_kind (Mask_product t) l e = absurd cc
       by_kind (Masked t side) l e = absurd cc
       by_kind (Kept j) l e = absurd cc
+
+  -- an opening to any of its readers occurs
+  pub opening_occurs : s < length plan.sessions → (mask : ℕ) → Contains (readers (session plan s)) mask → Occurs plan (Opened mask)
+  opening_occurs ls mask (o, lo, is) =
+      record { at = s; output = o; session_there = ls; output_there = lo; is = sym is ∙ get_or_default (readers (session plan s)) o mask 0 lo }

@@ -1,16 +1,15 @@
 -- Where the instructions of each slot stand in a program, and the tables that a program keeps in place of them.
-use Rattle.std.specs.Prelude.{◌≡◌, ℕ, ◌+◌, ◌<◌, ◌≤◌, nat_eq, nat_lt, if◌then◌else◌, List, length, vec_capacity, Some}
+use Rattle.std.specs.Prelude.{◌≡◌, ℕ, ◌+◌, ◌<◌, ◌≤◌, nat_lt, if◌then◌else◌, List, length, map, slice_index, vec_capacity}
 use Rattle.std.specs.Global.{Vec}
-use Rattle.indexmap.specs.IndexMap.{IndexMap, get}
+use Rattle.mask_list.specs.Masks.{AreMasksOf}
 use Rattle.list_laws.specs.Lists.{total, listed}
 use Rattle.job_plan.specs.declared.pattern.Pattern.{Pattern}
 use Rattle.job_plan.specs.declared.pattern.Pattern.TheVariants.{Silent, Dealt, Multiplied, Opened, HandedOut, OpenedToAll, Joined, Held, Received}
 use Rattle.session_slots.specs.declared.source.Source.TheVariants.{Earlier}
-use Rattle.session_slots.specs.Sessions.{Session, owners, readers, session_slots, source}
-use Rattle.session_slots.specs.Sessions.Slot.{Input}
+use Rattle.session_slots.specs.Sessions.{Session, readers, source}
 use Rattle.job_session.specs.Batches.{IsInBatch}
 use Rattle.secret_sharing.specs.Schemes.{has_pair}
-use Rattle.job_plan.specs.Plans.{Plan, deals_in, keeping_slot, scheme, session, slot, slot_number, slots}
+use Rattle.job_plan.specs.Plans.{Plan, deals_in, keeping_slot, scheme, session, slot, slots}
 use Rattle.job_plan.specs.Numbers.{deals_before}
 use Rattle.job_plan.specs.Firsts.{first}
 use Rattle.job_plan.specs.Patterns.{pattern_at, Occurs}
@@ -22,7 +21,6 @@ use Rattle.party_program.specs.declared.place.Place.{Place}
 use Rattle.party_program.specs.declared.deals.ProductCounts.{ProductCounts}
 use Rattle.party_program.specs.declared.deals.SessionSteps.{SessionSteps}
 use Rattle.party_program.specs.declared.deals.Tally.{Tally}
-use Rattle.party_program.specs.declared.step.Step.{Step}
 use Rattle.party_program.specs.declared.step_table.StepTable.{StepTable}
 use Rattle.party_program.specs.PartySteps.{steps}
 use Rattle.party_program.specs.Programs.{first_named, half_program, slot_program}
@@ -68,16 +66,6 @@ pub record OccursIn (plan : Plan) (s : ℕ) (pattern : Pattern) : Type 0 where
   pub is : pattern ≡ pattern_at plan s slot
   pub occurs : Occurs plan pattern
 
--- the steps of p in this half of an opening to this group are kept
-abbrev pub HasOpening : {S : Type 0} → Plan → ℕ → Half → IndexMap ℕ (List Step) S → ℕ → Type 0
-HasOpening plan p half openings readers = get nat_eq openings readers ≡ Some (steps plan p half (Opened readers))
-
--- whatever is kept for a group is the steps of p in this half of an opening to it
-abbrev pub AreOpenings : {S : Type 0} → Plan → ℕ → Half → IndexMap ℕ (List Step) S → Type 0
-AreOpenings plan p half openings =
-    (readers : ℕ) (kept : List Step) → get nat_eq openings readers ≡ Some kept
-    → kept ≡ steps plan p half (Opened readers)
-
 -- the steps of p in this half of a slot, for each pattern of session s
 pub record AreSteps (plan : Plan) (p s : ℕ) (half : Half) (table : StepTable) : Type 0 where
   pub silent : table.silent ≡ steps plan p half Silent
@@ -88,8 +76,8 @@ pub record AreSteps (plan : Plan) (p s : ℕ) (half : Half) (table : StepTable) 
   pub held : table.held ≡ steps plan p half Held
   pub received : table.received ≡ steps plan p half Received
   pub dealt : table.dealt.items ≡ listed plan.parties (λ q. steps plan p half (Dealt q))
-  pub opened : (k readers : ℕ) → k < slots plan s → pattern_at plan s k ≡ Opened readers
-      → HasOpening plan p half table.opened readers
+  pub readers : AreMasksOf table.readers (readers (session plan s))
+  pub opened : table.opened.items ≡ map (λ mask. steps plan p half (Opened mask)) table.readers
 
 -- the party and the session are of the plan, and these are the party's steps there
 pub record AreSessionSteps (own : SessionSteps) : Type 0 where
@@ -102,18 +90,16 @@ pub record AreSessionSteps (own : SessionSteps) : Type 0 where
 abbrev pub session_of : SessionSteps → Session
 session_of own = session own.plan.now own.session
 
--- the only slots are those of input wires, gates, output wires and kept wires
-abbrev pub HasNoneBeside : Session → Type 0
-HasNoneBeside x = session_slots x ≡ length (owners x) + length x.gates + length (readers x) + length x.kept
+-- this number is listed for input wire v
+abbrev pub IsListed : List ℕ → ℕ → ℕ → Type 0
+IsListed list v number = (v < length list) × (slice_index list v ≡ number)
 
--- the first message by which session r keeps what input wire v of session s carries from it is listed for the wire's
--- slot
-abbrev pub IsReceived : {S : Type 0} → Plan → ℕ → IndexMap ℕ ℕ S → ℕ → ℕ → Type 0
-IsReceived plan s received v r =
-    get nat_eq received (slot_number plan s (Input v)) ≡ Some (first plan r (keeping_slot plan s v r))
+-- the first message by which session r keeps what input wire v of session s carries from it is listed for the wire
+abbrev pub IsReceived : Plan → ℕ → List ℕ → ℕ → ℕ → Type 0
+IsReceived plan s received v r = IsListed received v (first plan r (keeping_slot plan s v r))
 
 -- so for each wire that session s carries from one of the first n
-abbrev pub AreReceived : {S : Type 0} → Plan → ℕ → ℕ → IndexMap ℕ ℕ S → Type 0
+abbrev pub AreReceived : Plan → ℕ → ℕ → List ℕ → Type 0
 AreReceived plan s n received =
     (v r c i : ℕ) → r < n → source (session plan s) v ≡ Earlier r c i → IsReceived plan s received v r
 
@@ -166,6 +152,6 @@ pub record IsProgram (plan : Plan) (p s : ℕ) (program : Program) : Type 0 wher
   pub session_there : s < length plan.sessions
   pub heads : AreSteps plan p s Head program.heads
   pub tails : AreSteps plan p s Tail program.tails
-  pub received : AreReceived plan s s program.received
+  pub received : AreReceived plan s s program.received.items
   pub deals : program.deals.items ≡ listed (slots plan s) (deals_before plan p s)
   pub length : program.length ≡ instructions_before plan p s (slots plan s)

@@ -6,7 +6,7 @@ ghost use Rattle.session_slots.specs.Sessions.{owners};
 ghost use Rattle.session_slots.specs.SlotNumbers.{first_input, first_of_gate, prepared_before};
 ghost use Rattle.job_plan.specs.Plans.{scheme, slots};
 ghost use Rattle.party_program.specs.PartySteps.{deals_in_pattern};
-ghost use Rattle.party_program.specs.ProgramPlaces.{AreDealsTo, AreSessionSteps, HasNoneBeside, instructions_before, session_of};
+ghost use Rattle.party_program.specs.ProgramPlaces.{AreDealsTo, AreSessionSteps, instructions_before, session_of};
 ghost use Rattle.party_program.specs.ProgramPlaces.{AreProductCounts, HasInSlot, HasInThree, HasInTwo};
 ghost use Rattle.job_plan.specs.Numbers.{deals_before};
 ghost use Rattle.list_laws.specs.Lists.{listed};
@@ -309,10 +309,10 @@ fn push_slots(own: &SessionSteps<'_>, from: u32, to: u32, list: &mut Vec<u32>, t
     }
 }
 
-// Adds those before the slots of gates, which are the most, where no others stand among them.
+// Adds those before the slots of gates, which are the most, where no product is prepared.
 fn push_gates(own: &SessionSteps<'_>, list: &mut Vec<u32>, tally: &mut Tally)
     requires steps { AreSessionSteps own.now }
-    requires alone { HasNoneBeside (session_of own.now) }
+    requires not_prepared { (session_of own.now).prepared ≡ false }
     requires before { AreDealsTo own.now (length (owners (session_of own.now))) list.old tally.old }
     ensures { AreDealsTo own.now (length (owners (session_of own.now)) + length (session_of own.now).gates)
         list.new tally.new }

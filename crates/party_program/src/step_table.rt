@@ -1,18 +1,17 @@
 //! The steps of a party in heads, or in tails, for each pattern of a session's slots.
-ghost use Rattle.std.specs.Prelude.{◌≡◌, ℕ, ◌<◌, IfOk, OnOk, length};
+ghost use Rattle.std.specs.Prelude.{◌≡◌, ℕ, ◌<◌, IfOk, map};
+ghost use Rattle.std.specs.List.{Contains};
 ghost use Rattle.list_laws.specs.Lists.{listed};
 ghost use Rattle.job_plan.specs.declared.pattern.Pattern.TheVariants.{Dealt, Multiplied, Opened, HandedOut, OpenedToAll, Joined};
-ghost use Rattle.job_plan.specs.Plans.{slots};
-ghost use Rattle.job_plan.specs.Patterns.{pattern_at, Occurs};
+ghost use Rattle.job_plan.specs.Patterns.{Occurs};
 ghost use Rattle.party_program.specs.PartySteps.{steps};
-ghost use Rattle.party_program.specs.ProgramPlaces.{AreOpenings, HasOpening};
 
 use crate::half::Half;
 use crate::list_steps::list_steps;
 use crate::step::Step;
 use crate::step_list::StepList;
-use indexmap::IndexMap;
 use job_plan::{Pattern, Plan};
+use mask_list::MaskList;
 use std::alloc::{AllocError, Global};
 
 /// The steps of a party in the heads of a session's slots, or in their tails, for each pattern: of a linear gate, of a
@@ -28,7 +27,9 @@ pub(crate) struct StepTable {
     held: StepList,
     received: StepList,
     dealt: Vec<StepList>,
-    opened: IndexMap<u32, StepList>,
+    // The groups that read an output, and by their places what the party does in an opening to each.
+    readers: MaskList,
+    opened: Vec<StepList>,
 }
 
 impl StepTable {
@@ -58,7 +59,8 @@ impl StepTable {
         let held = list_steps(alloc, plan, p, half, Pattern::Held)?;
         let received = list_steps(alloc, plan, p, half, Pattern::Received)?;
         let dealt = deals_of_each(alloc, plan, p, half)?;
-        let opened = openings_of_each(alloc, plan, p, s, half)?;
+        let readers = plan.readers(alloc, s)?;
+        let opened = openings_to_each(alloc, plan, p, half, readers.as_slice())?;
         Ok(StepTable {
             silent,
             multiplied,
@@ -68,6 +70,7 @@ impl StepTable {
             held,
             received,
             dealt,
+            readers,
             opened,
         })
     }
@@ -161,7 +164,7 @@ impl StepTable {
         ensures { (plan : plans.Plan) (p s : ℕ) (half : halves.Half) → AreSteps plan p s half self.now
             → OccursIn plan s (Opened readers) → result.now ≡ steps plan p half (Opened readers) }
     {
-        self.opened[&readers].as_slice()
+        self.opened[self.readers.place(readers)].as_slice()
     }
 }
 
@@ -182,53 +185,21 @@ fn deals_of_each(
     Ok(list)
 }
 
-// What p does in a slot of each group that reads an output of session s.
-fn openings_of_each(
-    alloc: Global,
-    plan: &Plan,
-    p: u32,
-    s: u32,
-    half: Half,
-) -> Result<IndexMap<u32, StepList>, AllocError>
-    requires party { p < plan.now.parties }
-    requires session { s < length plan.now.sessions }
-    ensures { IfOk result (λ map. (k readers : ℕ) → k < slots plan.now s
-        → pattern_at plan.now s k ≡ Opened readers → HasOpening plan.now p half map readers) }
-{
-    let _ = plan.parties();
-    let part = plan.part(s);
-    let first = part.first_output_slot();
-    let mut openings = IndexMap::new(alloc);
-    for k in first..first + part.output_wires() as u32 {
-        let pattern = plan.pattern(s, k);
-        add_opening(alloc, plan, p, half, pattern, &mut openings)?;
-    }
-    Ok(openings)
-}
-
-// Adds what p does in a slot of this pattern, if it is an opening to a group that isn't there.
-fn add_opening(
+// What p does in an opening to each of these groups.
+fn openings_to_each(
     alloc: Global,
     plan: &Plan,
     p: u32,
     half: Half,
-    pattern: Pattern,
-    openings: &mut IndexMap<u32, StepList>,
-) -> Result<(), AllocError>
+    readers: &[u32],
+) -> Result<Vec<StepList>, AllocError>
     requires party { p < plan.now.parties }
-    requires occurs { Occurs plan.now pattern }
-    requires before { AreOpenings plan.now p half openings.old }
-    ensures openings { OnOk result (AreOpenings plan.now p half openings.new) }
-    ensures others { OnOk result ((readers : ℕ) → HasOpening plan.now p half openings.old readers
-        → HasOpening plan.now p half openings.new readers) }
-    ensures added { OnOk result ((readers : ℕ) → pattern ≡ Opened readers
-        → HasOpening plan.now p half openings.new readers) }
+    requires occur { (mask : ℕ) → Contains readers.now mask → Occurs plan.now (Opened mask) }
+    ensures { IfOk result (λ list. list.items ≡ map (λ mask. steps plan.now p half (Opened mask)) readers.now) }
 {
-    if let Pattern::Opened(readers) = pattern {
-        if !openings.contains_key(&readers) {
-            let steps = list_steps(alloc, plan, p, half, pattern)?;
-            openings.insert(readers, steps)?;
-        }
+    let mut list = Vec::new(alloc);
+    for mask in readers {
+        list.push(list_steps(alloc, plan, p, half, Pattern::Opened(*mask))?)?;
     }
-    Ok(())
+    Ok(list)
 }

@@ -1,14 +1,11 @@
 use Rattle.std.proofs.Common.{◌≡◌, ℕ, ◌+◌, ◌<◌, Bool, true, false, not, ◌&&◌, if◌then◌else◌, List, length, refl, sym, ap, ◌∙◌, subst, arith}
 use Rattle.std.specs.Prelude.{slice_index_or}
 use Rattle.std.proofs.lemmas.List.{length-append}
-use Rattle.list_laws.proofs.JoinedLists.{total_within}
 use Rattle.circuit_model.specs.Circuits.{is_product}
 use Rattle.circuit_model.specs.declared.gate.Gate.{Gate}
 use Rattle.secret_sharing.specs.Schemes.{has_pair}
-use Rattle.session_slots.specs.Sessions.{Session, owners, gate, no_gate, is_prepared, session_slot}
-use Rattle.session_slots.specs.Sessions.Slot.{At_gate}
-use Rattle.session_slots.specs.SlotNumbers.{session_slot_number}
-use Rattle.session_slots.proofs.SessionSlots.{slot_count, slot_there}
+use Rattle.session_slots.specs.Sessions.{Session, owners, gate, no_gate}
+use Rattle.session_slots.proofs.SessionSlots.{direct_count, none_prepared, slot_gate}
 use Rattle.job_plan.specs.declared.pattern.Pattern.TheVariants.{Silent, Multiplied}
 use Rattle.job_plan.proofs.PlanSchemes.{plan_is}
 use Rattle.job_plan.specs.Plans.{IsPlan, Plan, scheme, session, slot, slots, deals_in}
@@ -20,33 +17,13 @@ use Rattle.party_program.specs.declared.step_table.StepTable.{StepTable}
 use Rattle.job_plan.specs.Sound.{IsSound}
 use Rattle.party_program.specs.Programs.{head, tail, half_program, slot_program}
 use Rattle.party_program.specs.PartySteps.{steps}
-use Rattle.party_program.specs.ProgramPlaces.{AreDeals, AreSteps, HasNoneBeside}
+use Rattle.party_program.specs.ProgramPlaces.{AreDeals, AreSteps}
 use Rattle.party_program.proofs.FollowedPatterns.{gate_pattern}
 use Rattle.party_program.proofs.ProgramPlaces.{length-half}
 use Rattle.party_program.proofs.FewSteps.{product_few}
 use Rattle.party_program.proofs.GrownDeals.{as_number, room_left, instructions_fit, one_more}
 use Rattle.party_program.proofs.deals.push_gates.Goals as goal
 use Rattle.party_program.proofs.deals.push_gates.Goals.{then-is_product, else-is_product}
-
--- where no slots stand beside those of inputs, gates and outputs, no product is prepared, and gate t stands behind the inputs
-module _ (x : Session) (t : ℕ) (lt : t < length x.gates) (alone : HasNoneBeside x) where
-  no_product : (b : Bool) → ◌≡◌ {A = ℕ} (if b then 1 else 0) 0 → b ≡ false
-  no_product true e = absurd (omega (arith, e))
-  no_product false e = refl
-
-  none_prepared : is_prepared x t ≡ false
-  none_prepared =
-      let all = slot_count x in
-      let within = total_within (length x.gates) t (λ u. if is_prepared x u then 1 else 0) lt in
-      no_product (is_prepared x t) (omega (arith, all, within, alone))
-
-  gate_here : session_slot x (length (owners x) + t) ≡ At_gate t
-  gate_here =
-      let all = slot_count x in
-      let within = total_within (length x.gates) t (λ u. if is_prepared x u then 1 else 0) lt in
-      let none : ◌≡◌ {A = ℕ} (if is_prepared x t then 2 else 0) 0 = ap (λ b. if b then 2 else 0) none_prepared in
-      let number : length (owners x) + t ≡ session_slot_number x (At_gate t) = omega (arith, all, within, alone, none) in
-      ap (session_slot x) number ∙ slot_there x (At_gate t) lt
 
 -- a gate of no prepared product is dealt, where it is a product
 direct_pattern : (prepared product : Bool) → (prepared && product) ≡ false → gate_pattern prepared product ≡ (if product then Multiplied else Silent)
@@ -61,7 +38,7 @@ direct_product true false e = refl
 direct_product false product e = refl
 
 -- gate t of session s, found among the gates of its part
-module _ (plan : Plan) (p s t : ℕ) (ls : s < length plan.sessions) (alone : HasNoneBeside (session plan s)) (part : Session) (same : part ≡ session plan s) (gates : List Gate) (of : gates ≡ part.gates) (less : t < length gates) where
+module _ (plan : Plan) (p s t : ℕ) (ls : s < length plan.sessions) (direct : (session plan s).prepared ≡ false) (part : Session) (same : part ≡ session plan s) (gates : List Gate) (of : gates ≡ part.gates) (less : t < length gates) where
   abbrev k : ℕ
   k = length (owners (session plan s)) + t
 
@@ -69,7 +46,7 @@ module _ (plan : Plan) (p s t : ℕ) (ls : s < length plan.sessions) (alone : Ha
   lt = subst (λ (xs : List Gate). t < length xs) (of ∙ ap (λ (x : Session). x.gates) same) less
 
   lk : k < slots plan s
-  lk = let less = lt in omega (arith, less, alone)
+  lk = let less = lt in omega (arith, less, direct_count (session plan s) direct)
 
   abbrev prepared : Bool
   prepared = (session plan s).prepared
@@ -83,8 +60,8 @@ module _ (plan : Plan) (p s t : ℕ) (ls : s < length plan.sessions) (alone : Ha
     half_count : IsPlan plan → (half : Half) → length (half_program plan p s half k) ≡ length (steps plan p half (if product then Multiplied else Silent))
     half_count of_plan half =
         length-half plan p s half k of_plan ls lk
-        ∙ ap (λ z. length (steps plan p half (pattern plan s z))) (gate_here (session plan s) t lt alone)
-        ∙ ap (λ pattern. length (steps plan p half pattern)) (direct_pattern prepared (is_product (gate (session plan s) t).operation) (none_prepared (session plan s) t lt alone))
+        ∙ ap (λ z. length (steps plan p half (pattern plan s z))) (slot_gate (session plan s) direct t lt)
+        ∙ ap (λ pattern. length (steps plan p half pattern)) (direct_pattern prepared (is_product (gate (session plan s) t).operation) (none_prepared (session plan s) direct t))
         ∙ ap (λ b. length (steps plan p half (if b then Multiplied else Silent))) product_is
 
     count : IsPlan plan → length (slot_program plan p s k) ≡ length (steps plan p Head (if product then Multiplied else Silent)) + length (steps plan p Tail (if product then Multiplied else Silent))
@@ -93,12 +70,12 @@ module _ (plan : Plan) (p s t : ℕ) (ls : s < length plan.sessions) (alone : Ha
     -- and a deal where it is a product and the party has a pair to multiply
     dealt : deals_in plan s p (slot plan s k) ≡ (product && has_pair (scheme plan) p)
     dealt =
-        ap (deals_in plan s p) (gate_here (session plan s) t lt alone)
-        ∙ ap (λ b. b && has_pair (scheme plan) p) (direct_product prepared (is_product (gate (session plan s) t).operation) (none_prepared (session plan s) t lt alone) ∙ product_is)
+        ap (deals_in plan s p) (slot_gate (session plan s) direct t lt)
+        ∙ ap (λ b. b && has_pair (scheme plan) p) (direct_product prepared (is_product (gate (session plan s) t).operation) (none_prepared (session plan s) direct t) ∙ product_is)
 
 pub push_reserved-requires : goal.push_reserved-requires
 push_reserved-requires c =
-    let there = lk c.args.own.now.plan.now c.args.own.now.party c.args.own.now.session c.loop-gate.gate-index c.requires.steps.session c.requires.alone _ c.part.ensures _ c.gates-gate-items.ensures c.loop-gate-test.true in
+    let there = lk c.args.own.now.plan.now c.args.own.now.party c.args.own.now.session c.loop-gate.gate-index c.requires.steps.session c.requires.not_prepared _ c.part.ensures _ c.gates-gate-items.ensures c.loop-gate-test.true in
     room_left c.args.own.now.plan.now c.args.own.now.party c.args.own.now.session _ c.loop-gate.list c.loop-gate.tally c.loop-gate.invariant (omega (arith, there))
 
 -- a product has few steps
@@ -119,20 +96,20 @@ overflow_cast-steps c = let all = few c.args.own.now.plan.now c.args.own.now.par
 -- a product has as many instructions as were added
 module _ (c : goal.Then-is_product) where
   there : length (owners (session c.args.own.now.plan.now c.args.own.now.session)) + c.loop-gate.gate-index < slots c.args.own.now.plan.now c.args.own.now.session
-  there = lk c.args.own.now.plan.now c.args.own.now.party c.args.own.now.session c.loop-gate.gate-index c.requires.steps.session c.requires.alone _ c.part.ensures _ c.gates-gate-items.ensures c.loop-gate-test.true
+  there = lk c.args.own.now.plan.now c.args.own.now.party c.args.own.now.session c.loop-gate.gate-index c.requires.steps.session c.requires.not_prepared _ c.part.ensures _ c.gates-gate-items.ensures c.loop-gate-test.true
 
   many : length c.of_product.result.now + length c.of_product-2.result.now ≡ length (slot_program c.args.own.now.plan.now c.args.own.now.party c.args.own.now.session (length (owners (session c.args.own.now.plan.now c.args.own.now.session)) + c.loop-gate.gate-index))
   many =
       both_of c.args.own.now.plan.now c.args.own.now.party c.args.own.now.session c.args.own.now.heads.now c.args.own.now.tails.now c.requires.steps.heads c.requires.steps.tails c.parties.ensures.sound c.of_product.result.now c.of_product-2.result.now c.of_product.ensures c.of_product-2.ensures
-      ∙ sym (count c.args.own.now.plan.now c.args.own.now.party c.args.own.now.session c.loop-gate.gate-index c.requires.steps.session c.requires.alone _ c.part.ensures _ c.gates-gate-items.ensures c.loop-gate-test.true _ true c.is_product.ensures c.if-is_product.true (plan_is c.args.own.now.plan.now c.parties.ensures.sound))
+      ∙ sym (count c.args.own.now.plan.now c.args.own.now.party c.args.own.now.session c.loop-gate.gate-index c.requires.steps.session c.requires.not_prepared _ c.part.ensures _ c.gates-gate-items.ensures c.loop-gate-test.true _ true c.is_product.ensures c.if-is_product.true (plan_is c.args.own.now.plan.now c.parties.ensures.sound))
 
 pub overflow_add-tally : goal.overflow_add-tally
 overflow_add-tally c = let all = instructions_fit c.args.own.now.plan.now c.args.own.now.party c.args.own.now.session _ c.loop-gate.list c.loop-gate.tally c.loop-gate.invariant _ c.parties.ensures.sound c.requires.steps.session (there c) (many c) in omega (arith, all)
 
 pub overflow_add-tally-else-is_product : goal.overflow_add-tally-else-is_product
 overflow_add-tally-else-is_product c =
-    let there = lk c.args.own.now.plan.now c.args.own.now.party c.args.own.now.session c.loop-gate.gate-index c.requires.steps.session c.requires.alone _ c.part.ensures _ c.gates-gate-items.ensures c.loop-gate-test.true in
-    let one = count c.args.own.now.plan.now c.args.own.now.party c.args.own.now.session c.loop-gate.gate-index c.requires.steps.session c.requires.alone _ c.part.ensures _ c.gates-gate-items.ensures c.loop-gate-test.true _ false c.is_product.ensures c.if-is_product.false (plan_is c.args.own.now.plan.now c.parties.ensures.sound) in
+    let there = lk c.args.own.now.plan.now c.args.own.now.party c.args.own.now.session c.loop-gate.gate-index c.requires.steps.session c.requires.not_prepared _ c.part.ensures _ c.gates-gate-items.ensures c.loop-gate-test.true in
+    let one = count c.args.own.now.plan.now c.args.own.now.party c.args.own.now.session c.loop-gate.gate-index c.requires.steps.session c.requires.not_prepared _ c.part.ensures _ c.gates-gate-items.ensures c.loop-gate-test.true _ false c.is_product.ensures c.if-is_product.false (plan_is c.args.own.now.plan.now c.parties.ensures.sound) in
     let all = instructions_fit c.args.own.now.plan.now c.args.own.now.party c.args.own.now.session _ c.loop-gate.list c.loop-gate.tally c.loop-gate.invariant 1 c.parties.ensures.sound c.requires.steps.session there (sym one) in
     omega (arith, all)
 
@@ -148,15 +125,15 @@ loop-gate-preserved c =
     (elim c.if-is_product.branch [
       | then-is_product w ↦
           let deals = c.from-deals.ensures ∙ as_number c.multiplies.result ∙ ap (λ b. if b then 1 else 0)
-          (c.multiplies.ensures ∙ sym (dealt plan p s c.loop-gate.gate-index c.requires.steps.session c.requires.alone _ c.part.ensures _ c.gates-gate-items.ensures c.loop-gate-test.true _ true c.is_product.ensures w.if-is_product.true)) in
+          (c.multiplies.ensures ∙ sym (dealt plan p s c.loop-gate.gate-index c.requires.steps.session c.requires.not_prepared _ c.part.ensures _ c.gates-gate-items.ensures c.loop-gate-test.true _ true c.is_product.ensures w.if-is_product.true)) in
           let count = both_of plan p s c.args.own.now.heads.now c.args.own.now.tails.now c.requires.steps.heads c.requires.steps.tails c.parties.ensures.sound c.of_product.result.now c.of_product-2.result.now c.of_product.ensures c.of_product-2.ensures
-          ∙ sym (count plan p s c.loop-gate.gate-index c.requires.steps.session c.requires.alone _ c.part.ensures _ c.gates-gate-items.ensures c.loop-gate-test.true _ true c.is_product.ensures w.if-is_product.true (plan_is c.args.own.now.plan.now c.parties.ensures.sound)) in
+          ∙ sym (count plan p s c.loop-gate.gate-index c.requires.steps.session c.requires.not_prepared _ c.part.ensures _ c.gates-gate-items.ensures c.loop-gate-test.true _ true c.is_product.ensures w.if-is_product.true (plan_is c.args.own.now.plan.now c.parties.ensures.sound)) in
           subst (AreDeals plan p s (k + 1) c.push_reserved.new.self) (sym w.tally-is)
           (grown (length c.of_product.result.now + length c.of_product-2.result.now) c.from-deals.result c.push_reserved.ensures.items c.push_reserved.ensures.capacity count deals)
       | else-is_product w ↦
           let none : 0 ≡ (if deals_in plan s p (slot plan s k) then 1 else 0) = ap (λ b. if b then 1 else 0)
-          (sym (dealt plan p s c.loop-gate.gate-index c.requires.steps.session c.requires.alone _ c.part.ensures _ c.gates-gate-items.ensures c.loop-gate-test.true _ false c.is_product.ensures w.if-is_product.false)) in
-          let count = sym (count plan p s c.loop-gate.gate-index c.requires.steps.session c.requires.alone _ c.part.ensures _ c.gates-gate-items.ensures c.loop-gate-test.true _ false c.is_product.ensures w.if-is_product.false (plan_is c.args.own.now.plan.now c.parties.ensures.sound)) in
+          (sym (dealt plan p s c.loop-gate.gate-index c.requires.steps.session c.requires.not_prepared _ c.part.ensures _ c.gates-gate-items.ensures c.loop-gate-test.true _ false c.is_product.ensures w.if-is_product.false)) in
+          let count = sym (count plan p s c.loop-gate.gate-index c.requires.steps.session c.requires.not_prepared _ c.part.ensures _ c.gates-gate-items.ensures c.loop-gate-test.true _ false c.is_product.ensures w.if-is_product.false (plan_is c.args.own.now.plan.now c.parties.ensures.sound)) in
           let still : c.loop-gate.tally.deals + 0 ≡ c.loop-gate.tally.deals = omega arith in
           subst (AreDeals plan p s (k + 1) c.push_reserved.new.self) (ap (λ n. record { instructions = c.loop-gate.tally.instructions + 1; deals = n }) still ∙ sym w.tally-is)
           (grown 1 0 c.push_reserved.ensures.items c.push_reserved.ensures.capacity count none)

@@ -1,13 +1,8 @@
-use Rattle.std.proofs.Common.{length, sym, ap, ◌∙◌, arith}
+use Rattle.std.proofs.Common.{length, ap, arith}
 use Rattle.circuit_model.specs.declared.gate.Gate.{Gate}
 use Rattle.session_slots.specs.Sessions.{Session, session_slots}
-use Rattle.session_slots.proofs.SessionSlots.{direct_count, slot_count}
-use Rattle.job_plan.specs.Plans.{session}
+use Rattle.session_slots.proofs.SessionSlots.{slot_count}
 use Rattle.party_program.proofs.deals.push_most.Goals as goal
-
-pub push_gates-requires-clause-alone : goal.push_gates-requires-clause-alone
-push_gates-requires-clause-alone c =
-    direct_count (session c.args.own.now.plan.now c.args.own.now.session) (ap (λ (x : Session). x.prepared) (sym c.part-part.ensures) ∙ sym c.is_prepared.ensures ∙ c.if-is_prepared.false)
 
 pub returns-then-is_prepared-clause-there : goal.returns-then-is_prepared-clause-there
 returns-then-is_prepared-clause-there c =

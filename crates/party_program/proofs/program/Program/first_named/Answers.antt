@@ -5,23 +5,6 @@ use Rattle.job_plan.proofs.PlanSchemes.{plan_is}
 use Rattle.party_program.proofs.NamedSlots.{found_named, named_own, named_past}
 use Rattle.party_program.proofs.program.Program.first_named.Goals as goal
 
-pub index-requires : goal.index-requires
-index-requires c =
-    let plan = c.args.plan.now in
-    let own = c.args.self.now in
-    let lk = c.requires.there c.in-Received.is in
-    let found = found_named plan (plan_is plan c.requires.is.sound) own.session c.args.slot lk own.received c.requires.is.received (sym (c.requires.pattern lk) ∙ c.in-Received.is) in
-    search rules
-
-pub returns-in-Received : goal.returns-in-Received
-returns-in-Received c =
-    let plan = c.args.plan.now in
-    let own = c.args.self.now in
-    let lk = c.requires.there c.in-Received.is in
-    let found = found_named plan (plan_is plan c.requires.is.sound) own.session c.args.slot lk own.received c.requires.is.received (sym (c.requires.pattern lk) ∙ c.in-Received.is) in
-    let both = sym c.index.ensures ∙ found in
-    cc
-
 pub returns : goal.returns
 returns c =
     let plan = c.args.plan.now in

@@ -1,0 +1,2 @@
+mod RisingMasks
+pub mod AddedMasks
