@@ -46,7 +46,7 @@ fn mask_with(mask: u32, name: &str, names: &Names) -> Option<u32>
     requires { mask < 2 ^ length names.now }
     ensures { result ≡ mask_with names.now mask name.now }
 {
-    let _ = names.len();
+    names.recall();
     let party = names.number(name)?;
     if has_party(mask, party) {
         return None;

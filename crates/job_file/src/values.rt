@@ -32,7 +32,7 @@ fn party_of(names: &Names, name: &str) -> u32
     ensures is { result ≡ party_of names.now name.now }
     ensures within { result < length names.now }
 {
-    let _ = names.len();
+    names.recall();
     names.number(name).unwrap_or(0)
 }
 
@@ -41,7 +41,7 @@ fn owner_of(version_two: bool, names: &Names, session: u32, text: &str) -> JobOw
     ensures is { result ≡ owner_of version_two names.now session text.now }
     ensures within { IsOwner (length names.now) session result }
 {
-    let _ = names.len();
+    names.recall();
     owner_in(version_two, names, session, text).unwrap_or(JobOwner::Party(0))
 }
 
@@ -67,7 +67,7 @@ fn mask_of(readers: &[Value], names: &Names) -> u32
     ensures is { result ≡ mask_of names.now (map text_of (map view readers.now)) }
     ensures below { result < 2 ^ length names.now }
 {
-    let _ = names.len();
+    names.recall();
     let mut mask = 0;
     for reader in readers {
         mask = with_party(mask, party_of(names, text_of(reader)));
@@ -221,7 +221,7 @@ pub fn job_of(alloc: Global, table: &Table, names: Names) -> Result<Job, AllocEr
     let own_views = own_views_in(table).unwrap_or(false);
     let tables = items_at(table, JobField::Session.text());
     let sessions = sessions_of(alloc, tables, is_version_two(table), &names)?;
-    let _ = names.len();
+    names.recall();
     Ok(Job {
         ring,
         names,

@@ -122,6 +122,14 @@ impl Plan {
         self.outline.parties()
     }
 
+    /// Brings into the proof of the function that calls it that the plan is within the limits. It computes nothing.
+    #[inline(always)]
+    pub fn recall(&self)
+        ensures { IsSound self.now }
+    {
+        let _ = self.parties();
+    }
+
     /// How many summands a value has.
     pub fn shares(&self) -> u32
         ensures is { result ≡ length self.now.groups }

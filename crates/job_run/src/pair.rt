@@ -48,7 +48,7 @@ pub fn pair_of(
     ensures fault { IfErr result (λ fault. (fault ≡ Memory)
         ⊎ (map_fault (world_of plan.now (map form_of parties.items)) other.now group.mask ≡ Some fault)) }
 {
-    let _ = plan.parties();
+    plan.recall();
     let inputs = inputs_of(alloc, plan, parties.as_slice())?;
     let own = tapes_of(alloc, parties.as_slice())?;
     let tapes = map_tapes(alloc, plan, &inputs, own.as_slice(), other, groups, group)?;

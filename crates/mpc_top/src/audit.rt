@@ -54,7 +54,7 @@ fn audit_planned<F: Files, O: Sink>(
         → ReadsPlan dir.now None before (F.reading files.old) (Ok planned.now)
         → RunsAlone (Some (audit dir.now)) before (F.reading files.new) (O.reading out.old) (O.reading out.new) result }
 {
-    let _ = planned.plan.parties();
+    planned.plan.recall();
     let parties = read_parties(alloc, files, dir, &planned.names, &planned.plan)?;
     let inputs = inputs_of(alloc, &planned.plan, &parties)?;
     let tapes = tapes_of(alloc, &parties)?;

@@ -76,8 +76,8 @@ fn gather_outputs<G: Gather>(out: &mut G, names: &Names, plan: &Plan, me: u32, d
     requires done { length done.now.outputs ≡ length plan.now.sessions }
     ensures { Adds (outputs_text names.now plan.now me done.now) (G.gathered out.old) (G.gathered out.new) }
 {
-    let _ = names.len();
-    let _ = plan.parties();
+    names.recall();
+    plan.recall();
     let reader = Reader {
         name: names.name(me),
         party: me,

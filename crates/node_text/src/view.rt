@@ -53,7 +53,7 @@ fn gather_kept<G: Gather>(out: &mut G, names: &Names, plan: &Plan, group: Group,
         (joined (length (messages plan.now)) (kept_message plan.now group.mask done.now)))
         (G.gathered out.old) (G.gathered out.new) }
 {
-    let _ = plan.parties();
+    plan.recall();
     for number in 0..plan.messages() {
         gather_message(out, names, plan, group, done, number);
     }
@@ -75,7 +75,7 @@ fn gather_message<G: Gather>(
     ensures { Adds (message_lines names.now (kept_message plan.now group.mask done.now number))
         (G.gathered out.old) (G.gathered out.new) }
 {
-    let _ = plan.parties();
+    plan.recall();
     let key = plan.message(number);
     if touches(group, key) {
         gather_message_line(out, names, key, done.kept(number).unwrap_or(0));

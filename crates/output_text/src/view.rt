@@ -37,7 +37,7 @@ fn gather_messages<G: Gather>(out: &mut G, run: &FinishedRun<'_>, group: Group)
     ensures { OfRunsWorld run.now (λ w. Adds
         (seen_lines run.now.names.now w group.mask (messages w.plan)) (G.gathered out.old) (G.gathered out.new)) }
 {
-    let _ = run.plan.parties();
+    run.plan.recall();
     for s in 0..run.plan.sessions() {
         gather_session(out, run, group, s);
     }

@@ -84,6 +84,16 @@ impl Names {
         self.names.len() as u32
     }
 
+    /// Brings into the proof of the function that calls it that these are names. It computes nothing.
+    #[inline(always)]
+    pub fn recall(&self)
+        ensures names { AreNames self.now }
+        ensures some { 1 ≤ length self.now }
+        ensures few { length self.now ≤ MOST_PARTIES }
+    {
+        let _ = self.len();
+    }
+
     /// The name of party `p`.
     pub fn name(&self, p: u32) -> &str
         requires { p < length self.now }

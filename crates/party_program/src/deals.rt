@@ -57,7 +57,7 @@ pub(crate) fn list_deals(
         (slots own.now.plan.now own.now.session)) }
 {
     let plan = own.plan;
-    let _ = plan.parties();
+    plan.recall();
     let slots = plan.slots(own.session);
     let mut list = Vec::with_capacity(alloc, slots as usize)?;
     let mut tally = Tally {
@@ -77,7 +77,8 @@ fn push_most(own: &SessionSteps<'_>, list: &mut Vec<u32>, tally: &mut Tally) -> 
     ensures added { AreDealsTo own.now result list.new tally.new }
 {
     let plan = own.plan;
-    let _ = (plan.parties(), plan.slots(own.session));
+    plan.recall();
+    let _ = plan.slots(own.session);
     let part = plan.part(own.session);
     if part.is_prepared() {
         push_prepared(own, list, tally);
@@ -98,7 +99,7 @@ fn push_prepared(own: &SessionSteps<'_>, list: &mut Vec<u32>, tally: &mut Tally)
         list.new tally.new }
 {
     let plan = own.plan;
-    let _ = plan.parties();
+    plan.recall();
     let part = plan.part(own.session);
     let counts = count_products(own);
     push_preparation(own, counts, list, tally);
@@ -140,7 +141,7 @@ fn push_preparation(
     requires before { AreDealsTo own.now 0 list.old tally.old }
     ensures { AreDealsTo own.now (first_input (session_of own.now)) list.new tally.new }
 {
-    let _ = own.plan.parties();
+    own.plan.recall();
     if own.plan.part(own.session).is_ahead() {
         push_masks(own, counts, list, tally);
         push_mask_products(own, counts, list, tally);
@@ -159,7 +160,7 @@ fn push_masks(own: &SessionSteps<'_>, counts: ProductCounts, list: &mut Vec<u32>
     ensures { AreDealsTo own.now (2 * prepared_before (session_of own.now) (length (session_of own.now).gates))
         list.new tally.new }
 {
-    let _ = own.plan.parties();
+    own.plan.recall();
     for gate in own.plan.part(own.session).gates() {
         if gate.operation.is_product() {
             push_two(own, counts.mask, list, tally);
@@ -182,7 +183,7 @@ fn push_mask_products(
         list.old tally.old }
     ensures { AreDealsTo own.now (first_input (session_of own.now)) list.new tally.new }
 {
-    let _ = own.plan.parties();
+    own.plan.recall();
     for gate in own.plan.part(own.session).gates() {
         if gate.operation.is_product() {
             push_slot(own, counts.product, counts.deals, list, tally);
@@ -199,7 +200,7 @@ fn push_turns(own: &SessionSteps<'_>, counts: ProductCounts, list: &mut Vec<u32>
     requires before { AreDealsTo own.now 0 list.old tally.old }
     ensures { AreDealsTo own.now (first_input (session_of own.now)) list.new tally.new }
 {
-    let _ = own.plan.parties();
+    own.plan.recall();
     for gate in own.plan.part(own.session).gates() {
         if gate.operation.is_product() {
             push_three(own, counts.mask, counts.product, counts.deals, list, tally);
@@ -221,7 +222,7 @@ fn push_prepared_gates(
     ensures { AreDealsTo own.now (first_of_gate (session_of own.now) (length (session_of own.now).gates))
         list.new tally.new }
 {
-    let _ = own.plan.parties();
+    own.plan.recall();
     for gate in own.plan.part(own.session).gates() {
         if gate.operation.is_product() {
             push_three(own, counts.opening, counts.join, 0, list, tally);
@@ -278,7 +279,8 @@ fn push_slot(
         → AreDealsTo own.now (k + 1) list.new tally.new }
 {
     let plan = own.plan;
-    let _ = (plan.parties(), plan.slots(own.session));
+    plan.recall();
+    let _ = plan.slots(own.session);
     list.push_reserved(tally.deals);
     tally.instructions += count as u32;
     tally.deals += deals;
@@ -299,7 +301,7 @@ fn push_slots(own: &SessionSteps<'_>, from: u32, to: u32, list: &mut Vec<u32>, t
         heads,
         tails,
     } = *own;
-    let _ = plan.parties();
+    plan.recall();
     let multiplies = plan.multiplies(party);
     for k in from..to {
         list.push_reserved(tally.deals);
@@ -318,7 +320,7 @@ fn push_gates(own: &SessionSteps<'_>, list: &mut Vec<u32>, tally: &mut Tally)
         list.new tally.new }
 {
     let plan = own.plan;
-    let _ = plan.parties();
+    plan.recall();
     let deals = u32::from(plan.multiplies(own.party));
     let steps = (own.heads.of_product().len() + own.tails.of_product().len()) as u32;
     for gate in plan.part(own.session).gates() {

@@ -62,7 +62,7 @@ fn push_posts(plan: &Plan, p: u32, pattern: Pattern, list: &mut StepList) -> Res
     requires { Occurs plan.now pattern }
     ensures { OnOk result (list.new ≡ list.old ++ post_steps plan.now p pattern) }
 {
-    let _ = plan.parties();
+    plan.recall();
     let transfers = plan.transfers(pattern);
     for (place, transfer) in transfers.iter().enumerate() {
         let step = Step::Post {
@@ -92,7 +92,7 @@ fn push_takes(plan: &Plan, p: u32, pattern: Pattern, list: &mut StepList) -> Res
     requires { Occurs plan.now pattern }
     ensures { OnOk result (list.new ≡ list.old ++ take_steps plan.now p pattern) }
 {
-    let _ = plan.parties();
+    plan.recall();
     let transfers = taken_transfers(plan, pattern);
     for (place, transfer) in transfers.iter().enumerate() {
         let step = Step::Take {
@@ -109,7 +109,7 @@ fn push_after(plan: &Plan, p: u32, pattern: Pattern, list: &mut StepList) -> Res
     requires { p < plan.now.parties }
     ensures { OnOk result (list.new ≡ list.old ++ steps_after p pattern) }
 {
-    let _ = plan.parties();
+    plan.recall();
     match pattern {
         Pattern::Silent | Pattern::Dealt(_) | Pattern::HandedOut => Ok(()),
         Pattern::Held | Pattern::Received => Ok(()),

@@ -25,7 +25,7 @@ fn add_kept(plan: &Plan, r: u32, s: u32, received: &mut Vec<u32>) -> Result<(), 
     requires before { AreReceived plan.now s r received.old.items }
     ensures { OnOk result (AreReceived plan.now s (r + 1) received.new.items) }
 {
-    let _ = plan.parties();
+    plan.recall();
     let part = plan.part(r);
     let first_kept = part.first_output_slot() + part.output_wires() as u32;
     for (place, kept) in part.kept().iter().enumerate() {

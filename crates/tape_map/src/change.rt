@@ -165,7 +165,7 @@ impl Change {
         ensures is { result ≡ growth_in plan.now self.now p (At_gate t) }
         ensures below { result < 2 ^ plan.now.bits }
     {
-        let _ = plan.parties();
+        plan.recall();
         let gate = plan.part(self.session).gate(t);
         let (x, y) = (self.rows.row(gate.first), self.rows.row(gate.second));
         let moved_x = &self.moved[gate.first as usize];
@@ -279,7 +279,7 @@ impl Growing<'_> {
         ensures { let g = self.now in IfOk result (λ masks. session_words masks.items
             ≡ grown_masks plan.now g.session g.hidden g.growths.now g.rows.now side) }
     {
-        let _ = plan.parties();
+        plan.recall();
         let part = plan.part(self.session);
         let mut masks = Vec::new(alloc);
         if part.is_prepared() {

@@ -51,7 +51,7 @@ fn session_fault(
     ensures { (tapes : List (List ℕ)) → IfOk result (λ found. found ≡ first_fault (input_checks
         (record { plan = plan.now; inputs = inputs.now; tapes = tapes }) other.now group.mask s)) }
 {
-    let _ = plan.parties();
+    plan.recall();
     let part = plan.part(s);
     let first = input_list(alloc, plan, inputs, s)?;
     let second = input_list(alloc, plan, other, s)?;

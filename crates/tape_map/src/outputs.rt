@@ -27,7 +27,7 @@ pub(crate) fn output_fault(
     ensures { result ≡ first_fault (joined (length plan.now.sessions) (λ s. value_checks plan.now group.mask s
         (value_at (session_words first.now) s) (value_at (session_words second.now) s))) }
 {
-    let _ = plan.parties();
+    plan.recall();
     for s in 0..plan.sessions() {
         if let Some(fault) = session_fault(
             plan,
@@ -57,7 +57,7 @@ fn session_fault(
     ensures { result ≡ first_fault
         (value_checks plan.now group.mask s (slice_index first.now) (slice_index second.now)) }
 {
-    let _ = plan.parties();
+    plan.recall();
     let part = plan.part(s);
     for o in 0..part.output_wires() as u32 {
         let wire = part.output_wire(o) as usize;

@@ -205,7 +205,7 @@ pub fn check(
     ensures wrong { IfErr result (λ fault. (line wanted found : ℕ) → fault ≡ WrongWord line wanted found
         → IsWrongWord names.now (view (world_given plan.now inputs.now tapes.now)) text.now line wanted found) }
 {
-    let _ = names.len();
+    names.recall();
     let world = WorldData {
         plan,
         inputs,

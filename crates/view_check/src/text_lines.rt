@@ -72,7 +72,7 @@ impl<'a> TextLines<'a> {
         ensures taken { result ≡ true → StandsFirst names.now key word self.old self.new }
         ensures left { result ≡ false → self.new ≡ self.old }
     {
-        let _ = names.len();
+        names.recall();
         let Some(rest) = after_line(self.rest, names, key, word) else {
             return false;
         };

@@ -64,7 +64,7 @@ impl CarriedRows {
         ensures handed_on { OnOk result (IsHandedOn plan.now s (λ v. slice_index_or (session_words rows.now) v [])
             (row_at self.old) (row_at self.new)) }
     {
-        let _ = plan.parties();
+        plan.recall();
         let part = plan.part(s);
         for kept in part.kept() {
             let wire = part.output_wire(kept.output);

@@ -60,7 +60,7 @@ pub fn value_lists(alloc: Global, plan: &Plan, inputs: &Inputs) -> Result<Vec<Ve
     ensures { (tapes : List (List ℕ)) → IfOk result (λ lists. session_words lists.items
         ≡ value_lists (record { plan = plan.now; inputs = inputs.now; tapes = tapes })) }
 {
-    let _ = plan.parties();
+    plan.recall();
     let mut lists = Vec::with_capacity(alloc, plan.sessions() as usize)?;
     for s in 0..plan.sessions() {
         lists.push(input_list(alloc, plan, inputs, s)?)?;
@@ -103,7 +103,7 @@ fn hand_on(plan: &Plan, s: u32, lists: &mut [Vec<u64>])
     ensures handed_on { IsHandedOn plan.now s (value_at (session_words lists.old) s)
         (value_at (session_words lists.old)) (value_at (session_words lists.new)) }
 {
-    let _ = plan.parties();
+    plan.recall();
     let part = plan.part(s);
     for kept in part.kept() {
         let value = lists[s as usize][part.output_wire(kept.output) as usize];

@@ -19,7 +19,7 @@ map_tapes-requires-clause-whole c =
     let inputs = c.in_ok-inputs.ensures.same ∙ ap (λ parties. (world_of plan (map form_of parties)).inputs) c.as_slice.ensures.value in
     let tapes = ap session_words c.as_slice-3.ensures.value ∙ c.in_ok-own.ensures ∙ ap (λ parties. (world_of plan (map form_of parties)).tapes) c.as_slice-2.ensures.value in
     let same = world_is plan (map form_of parties) c.in_ok-inputs.inputs c.as_slice-3.result.now inputs tapes in
-    subst IsWhole (sym same) (parties_whole plan c.parties.ensures.sound parties c.requires.count c.requires.fit)
+    subst IsWhole (sym same) (parties_whole plan c.recall.ensures parties c.requires.count c.requires.fit)
 
 pub cut_pieces-requires : goal.cut_pieces-requires
 cut_pieces-requires c =

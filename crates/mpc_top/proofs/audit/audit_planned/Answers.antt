@@ -69,7 +69,7 @@ pub judged-requires-clause-whole : goal.judged-requires-clause-whole
 judged-requires-clause-whole g c =
     let plan = c.args.planned.now.plan in
     let same = same_world plan c.in_ok-parties.parties.items _ _ c.in_ok-inputs.inputs c.in_ok-tapes.tapes.items _ c.deref.ensures.value c.deref-2.ensures.value c.deref-3.ensures.value c.in_ok-inputs.ensures.same c.in_ok-tapes.ensures in
-    subst IsWhole (sym same) (parties_whole plan c.parties.ensures.sound c.in_ok-parties.parties.items c.in_ok-parties.ensures.count c.in_ok-parties.ensures.fit)
+    subst IsWhole (sym same) (parties_whole plan c.recall.ensures c.in_ok-parties.parties.items c.in_ok-parties.ensures.count c.in_ok-parties.ensures.fit)
 
 pub returns-in_err-count : goal.returns-in_err-count
 returns-in_err-count g c = λ before read.

@@ -13,25 +13,25 @@ use Rattle.node_text.proofs.view.gather_message.Goals as goal
 
 pub touches-requires-clause-sender : goal.touches-requires-clause-sender
 touches-requires-clause-sender g c =
-    let b = between_parties c.args.plan.now c.parties.ensures.sound c.args.number c.requires.message in
+    let b = between_parties c.args.plan.now c.recall.ensures c.args.number c.requires.message in
     let same : c.message-key.result.sender ≡ (message c.args.plan.now c.args.number).sender = ap (λ (k : Key). k.sender) c.message-key.ensures.is in
     omega (arith, b.sender, same, c.requires.names, c.requires.group)
 
 pub touches-requires-clause-receiver : goal.touches-requires-clause-receiver
 touches-requires-clause-receiver g c =
-    let b = between_parties c.args.plan.now c.parties.ensures.sound c.args.number c.requires.message in
+    let b = between_parties c.args.plan.now c.recall.ensures c.args.number c.requires.message in
     let same : c.message-key.result.receiver ≡ (message c.args.plan.now c.args.number).receiver = ap (λ (k : Key). k.receiver) c.message-key.ensures.is in
     omega (arith, b.receiver, same, c.requires.names, c.requires.group)
 
 pub gather_message_line-requires-clause-sender : goal.gather_message_line-requires-clause-sender
 gather_message_line-requires-clause-sender g c =
-    let b = between_parties c.args.plan.now c.parties.ensures.sound c.args.number c.requires.message in
+    let b = between_parties c.args.plan.now c.recall.ensures c.args.number c.requires.message in
     let same : c.message-key.result.sender ≡ (message c.args.plan.now c.args.number).sender = ap (λ (k : Key). k.sender) c.message-key.ensures.is in
     omega (arith, b.sender, same, c.requires.names)
 
 pub gather_message_line-requires-clause-receiver : goal.gather_message_line-requires-clause-receiver
 gather_message_line-requires-clause-receiver g c =
-    let b = between_parties c.args.plan.now c.parties.ensures.sound c.args.number c.requires.message in
+    let b = between_parties c.args.plan.now c.recall.ensures c.args.number c.requires.message in
     let same : c.message-key.result.receiver ≡ (message c.args.plan.now c.args.number).receiver = ap (λ (k : Key). k.receiver) c.message-key.ensures.is in
     omega (arith, b.receiver, same, c.requires.names)
 

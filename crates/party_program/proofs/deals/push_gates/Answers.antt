@@ -88,10 +88,10 @@ module _ (plan : Plan) (p s : ℕ) (heads ends : StepTable) (are_heads : AreStep
   few = let all = both_of in let short = product_few plan p sound in omega (arith, all, short)
 
 pub overflow_add-steps : goal.overflow_add-steps
-overflow_add-steps c = let all = few c.args.own.now.plan.now c.args.own.now.party c.args.own.now.session c.args.own.now.heads.now c.args.own.now.tails.now c.requires.steps.heads c.requires.steps.tails c.parties.ensures.sound c.of_product.result.now c.of_product-2.result.now c.of_product.ensures c.of_product-2.ensures in omega (arith, all)
+overflow_add-steps c = let all = few c.args.own.now.plan.now c.args.own.now.party c.args.own.now.session c.args.own.now.heads.now c.args.own.now.tails.now c.requires.steps.heads c.requires.steps.tails c.recall.ensures c.of_product.result.now c.of_product-2.result.now c.of_product.ensures c.of_product-2.ensures in omega (arith, all)
 
 pub overflow_cast-steps : goal.overflow_cast-steps
-overflow_cast-steps c = let all = few c.args.own.now.plan.now c.args.own.now.party c.args.own.now.session c.args.own.now.heads.now c.args.own.now.tails.now c.requires.steps.heads c.requires.steps.tails c.parties.ensures.sound c.of_product.result.now c.of_product-2.result.now c.of_product.ensures c.of_product-2.ensures in omega (arith, all)
+overflow_cast-steps c = let all = few c.args.own.now.plan.now c.args.own.now.party c.args.own.now.session c.args.own.now.heads.now c.args.own.now.tails.now c.requires.steps.heads c.requires.steps.tails c.recall.ensures c.of_product.result.now c.of_product-2.result.now c.of_product.ensures c.of_product-2.ensures in omega (arith, all)
 
 -- a product has as many instructions as were added
 module _ (c : goal.Then-is_product) where
@@ -100,17 +100,17 @@ module _ (c : goal.Then-is_product) where
 
   many : length c.of_product.result.now + length c.of_product-2.result.now ≡ length (slot_program c.args.own.now.plan.now c.args.own.now.party c.args.own.now.session (length (owners (session c.args.own.now.plan.now c.args.own.now.session)) + c.loop-gate.gate-index))
   many =
-      both_of c.args.own.now.plan.now c.args.own.now.party c.args.own.now.session c.args.own.now.heads.now c.args.own.now.tails.now c.requires.steps.heads c.requires.steps.tails c.parties.ensures.sound c.of_product.result.now c.of_product-2.result.now c.of_product.ensures c.of_product-2.ensures
-      ∙ sym (count c.args.own.now.plan.now c.args.own.now.party c.args.own.now.session c.loop-gate.gate-index c.requires.steps.session c.requires.not_prepared _ c.part.ensures _ c.gates-gate-items.ensures c.loop-gate-test.true _ true c.is_product.ensures c.if-is_product.true (plan_is c.args.own.now.plan.now c.parties.ensures.sound))
+      both_of c.args.own.now.plan.now c.args.own.now.party c.args.own.now.session c.args.own.now.heads.now c.args.own.now.tails.now c.requires.steps.heads c.requires.steps.tails c.recall.ensures c.of_product.result.now c.of_product-2.result.now c.of_product.ensures c.of_product-2.ensures
+      ∙ sym (count c.args.own.now.plan.now c.args.own.now.party c.args.own.now.session c.loop-gate.gate-index c.requires.steps.session c.requires.not_prepared _ c.part.ensures _ c.gates-gate-items.ensures c.loop-gate-test.true _ true c.is_product.ensures c.if-is_product.true (plan_is c.args.own.now.plan.now c.recall.ensures))
 
 pub overflow_add-tally : goal.overflow_add-tally
-overflow_add-tally c = let all = instructions_fit c.args.own.now.plan.now c.args.own.now.party c.args.own.now.session _ c.loop-gate.list c.loop-gate.tally c.loop-gate.invariant _ c.parties.ensures.sound c.requires.steps.session (there c) (many c) in omega (arith, all)
+overflow_add-tally c = let all = instructions_fit c.args.own.now.plan.now c.args.own.now.party c.args.own.now.session _ c.loop-gate.list c.loop-gate.tally c.loop-gate.invariant _ c.recall.ensures c.requires.steps.session (there c) (many c) in omega (arith, all)
 
 pub overflow_add-tally-else-is_product : goal.overflow_add-tally-else-is_product
 overflow_add-tally-else-is_product c =
     let there = lk c.args.own.now.plan.now c.args.own.now.party c.args.own.now.session c.loop-gate.gate-index c.requires.steps.session c.requires.not_prepared _ c.part.ensures _ c.gates-gate-items.ensures c.loop-gate-test.true in
-    let one = count c.args.own.now.plan.now c.args.own.now.party c.args.own.now.session c.loop-gate.gate-index c.requires.steps.session c.requires.not_prepared _ c.part.ensures _ c.gates-gate-items.ensures c.loop-gate-test.true _ false c.is_product.ensures c.if-is_product.false (plan_is c.args.own.now.plan.now c.parties.ensures.sound) in
-    let all = instructions_fit c.args.own.now.plan.now c.args.own.now.party c.args.own.now.session _ c.loop-gate.list c.loop-gate.tally c.loop-gate.invariant 1 c.parties.ensures.sound c.requires.steps.session there (sym one) in
+    let one = count c.args.own.now.plan.now c.args.own.now.party c.args.own.now.session c.loop-gate.gate-index c.requires.steps.session c.requires.not_prepared _ c.part.ensures _ c.gates-gate-items.ensures c.loop-gate-test.true _ false c.is_product.ensures c.if-is_product.false (plan_is c.args.own.now.plan.now c.recall.ensures) in
+    let all = instructions_fit c.args.own.now.plan.now c.args.own.now.party c.args.own.now.session _ c.loop-gate.list c.loop-gate.tally c.loop-gate.invariant 1 c.recall.ensures c.requires.steps.session there (sym one) in
     omega (arith, all)
 
 pub loop-gate-preserved : goal.loop-gate-preserved
@@ -126,14 +126,14 @@ loop-gate-preserved c =
       | then-is_product w ↦
           let deals = c.from-deals.ensures ∙ as_number c.multiplies.result ∙ ap (λ b. if b then 1 else 0)
           (c.multiplies.ensures ∙ sym (dealt plan p s c.loop-gate.gate-index c.requires.steps.session c.requires.not_prepared _ c.part.ensures _ c.gates-gate-items.ensures c.loop-gate-test.true _ true c.is_product.ensures w.if-is_product.true)) in
-          let count = both_of plan p s c.args.own.now.heads.now c.args.own.now.tails.now c.requires.steps.heads c.requires.steps.tails c.parties.ensures.sound c.of_product.result.now c.of_product-2.result.now c.of_product.ensures c.of_product-2.ensures
-          ∙ sym (count plan p s c.loop-gate.gate-index c.requires.steps.session c.requires.not_prepared _ c.part.ensures _ c.gates-gate-items.ensures c.loop-gate-test.true _ true c.is_product.ensures w.if-is_product.true (plan_is c.args.own.now.plan.now c.parties.ensures.sound)) in
+          let count = both_of plan p s c.args.own.now.heads.now c.args.own.now.tails.now c.requires.steps.heads c.requires.steps.tails c.recall.ensures c.of_product.result.now c.of_product-2.result.now c.of_product.ensures c.of_product-2.ensures
+          ∙ sym (count plan p s c.loop-gate.gate-index c.requires.steps.session c.requires.not_prepared _ c.part.ensures _ c.gates-gate-items.ensures c.loop-gate-test.true _ true c.is_product.ensures w.if-is_product.true (plan_is c.args.own.now.plan.now c.recall.ensures)) in
           subst (AreDeals plan p s (k + 1) c.push_reserved.new.self) (sym w.tally-is)
           (grown (length c.of_product.result.now + length c.of_product-2.result.now) c.from-deals.result c.push_reserved.ensures.items c.push_reserved.ensures.capacity count deals)
       | else-is_product w ↦
           let none : 0 ≡ (if deals_in plan s p (slot plan s k) then 1 else 0) = ap (λ b. if b then 1 else 0)
           (sym (dealt plan p s c.loop-gate.gate-index c.requires.steps.session c.requires.not_prepared _ c.part.ensures _ c.gates-gate-items.ensures c.loop-gate-test.true _ false c.is_product.ensures w.if-is_product.false)) in
-          let count = sym (count plan p s c.loop-gate.gate-index c.requires.steps.session c.requires.not_prepared _ c.part.ensures _ c.gates-gate-items.ensures c.loop-gate-test.true _ false c.is_product.ensures w.if-is_product.false (plan_is c.args.own.now.plan.now c.parties.ensures.sound)) in
+          let count = sym (count plan p s c.loop-gate.gate-index c.requires.steps.session c.requires.not_prepared _ c.part.ensures _ c.gates-gate-items.ensures c.loop-gate-test.true _ false c.is_product.ensures w.if-is_product.false (plan_is c.args.own.now.plan.now c.recall.ensures)) in
           let still : c.loop-gate.tally.deals + 0 ≡ c.loop-gate.tally.deals = omega arith in
           subst (AreDeals plan p s (k + 1) c.push_reserved.new.self) (ap (λ n. record { instructions = c.loop-gate.tally.instructions + 1; deals = n }) still ∙ sym w.tally-is)
           (grown 1 0 c.push_reserved.ensures.items c.push_reserved.ensures.capacity count none)

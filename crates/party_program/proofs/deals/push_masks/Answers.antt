@@ -15,7 +15,7 @@ push_two-requires-clause-next c =
     let less = found_there x _ c.part.ensures _ c.gates-gate-items.ensures t c.loop-gate-test.true in
     let product = found_product x _ c.part.ensures _ c.gates-gate-items.ensures t c.loop-gate-test.true _ true c.is_product.ensures c.if-is_product.true in
     let is = ap₂ (λ a b. a && b) c.requires.prepared product in
-    (k, in_masks own c.requires.steps c.parties.ensures.sound t less c.args.counts c.requires.counts is k (sym (ahead_first x c.requires.ahead t)), c.loop-gate.invariant)
+    (k, in_masks own c.requires.steps c.recall.ensures t less c.args.counts c.requires.counts is k (sym (ahead_first x c.requires.ahead t)), c.loop-gate.invariant)
 
 pub loop-gate-preserved : goal.loop-gate-preserved
 loop-gate-preserved c =
@@ -28,11 +28,11 @@ loop-gate-preserved c =
       | then-is_product w ↦
           let product = found_product x _ c.part.ensures _ c.gates-gate-items.ensures t c.loop-gate-test.true _ true c.is_product.ensures w.if-is_product.true in
           let is = ap₂ (λ a b. a && b) c.requires.prepared product in
-          let next = next_prepared own c.requires.steps c.parties.ensures.sound t less true is in
-          same_deals own (k + 2) (2 * prepared_before x (t + 1)) _ _ _ _ (omega (arith, next)) w.list-is w.tally-is (w.push_two.ensures k (in_masks own c.requires.steps c.parties.ensures.sound t less c.args.counts c.requires.counts is k (sym (ahead_first x c.requires.ahead t))) c.loop-gate.invariant)
+          let next = next_prepared own c.requires.steps c.recall.ensures t less true is in
+          same_deals own (k + 2) (2 * prepared_before x (t + 1)) _ _ _ _ (omega (arith, next)) w.list-is w.tally-is (w.push_two.ensures k (in_masks own c.requires.steps c.recall.ensures t less c.args.counts c.requires.counts is k (sym (ahead_first x c.requires.ahead t))) c.loop-gate.invariant)
       | else-is_product w ↦
           let product = found_product x _ c.part.ensures _ c.gates-gate-items.ensures t c.loop-gate-test.true _ false c.is_product.ensures w.if-is_product.false in
           let is = ap₂ (λ a b. a && b) c.requires.prepared product in
-          let next = next_prepared own c.requires.steps c.parties.ensures.sound t less false is in
+          let next = next_prepared own c.requires.steps c.recall.ensures t less false is in
           same_deals own k (2 * prepared_before x (t + 1)) _ _ _ _ (omega (arith, next)) w.list-is w.tally-is c.loop-gate.invariant
     ]

@@ -1,6 +1,6 @@
 use Rattle.std.proofs.Common.{length, ap, arith}
 use Rattle.circuit_model.specs.declared.gate.Gate.{Gate}
-use Rattle.session_slots.specs.Sessions.{Session, session_slots}
+use Rattle.session_slots.specs.Sessions.{session_slots}
 use Rattle.session_slots.proofs.SessionSlots.{slot_count}
 use Rattle.party_program.proofs.deals.push_most.Goals as goal
 

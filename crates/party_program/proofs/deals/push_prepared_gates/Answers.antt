@@ -13,7 +13,7 @@ push_three-requires-clause-next c =
     let less = found_there x _ c.part.ensures _ c.gates-gate-items.ensures t c.loop-gate-test.true in
     let product = found_product x _ c.part.ensures _ c.gates-gate-items.ensures t c.loop-gate-test.true _ true c.is_product.ensures c.if-is_product.true in
     let is = ap₂ (λ a b. a && b) c.requires.prepared product in
-    (first_of_gate x t, in_gate own c.requires.steps c.parties.ensures.sound t less c.args.counts c.requires.counts is (first_of_gate x t) refl, c.loop-gate.invariant)
+    (first_of_gate x t, in_gate own c.requires.steps c.recall.ensures t less c.args.counts c.requires.counts is (first_of_gate x t) refl, c.loop-gate.invariant)
 
 pub push_slot-requires-clause-next : goal.push_slot-requires-clause-next
 push_slot-requires-clause-next c =
@@ -22,7 +22,7 @@ push_slot-requires-clause-next c =
     let t = c.loop-gate.gate-index in
     let less = found_there x _ c.part.ensures _ c.gates-gate-items.ensures t c.loop-gate-test.true in
     let linear = found_product x _ c.part.ensures _ c.gates-gate-items.ensures t c.loop-gate-test.true _ false c.is_product.ensures c.if-is_product.false in
-    (first_of_gate x t, in_linear own c.requires.steps c.parties.ensures.sound t less linear (first_of_gate x t) refl, c.loop-gate.invariant)
+    (first_of_gate x t, in_linear own c.requires.steps c.recall.ensures t less linear (first_of_gate x t) refl, c.loop-gate.invariant)
 
 pub loop-gate-preserved : goal.loop-gate-preserved
 loop-gate-preserved c =
@@ -35,11 +35,11 @@ loop-gate-preserved c =
       | then-is_product w ↦
           let product = found_product x _ c.part.ensures _ c.gates-gate-items.ensures t c.loop-gate-test.true _ true c.is_product.ensures w.if-is_product.true in
           let is = ap₂ (λ a b. a && b) c.requires.prepared product in
-          same_deals own (k + 3) (first_of_gate x (t + 1)) _ _ _ _ (next_gate own c.requires.steps c.parties.ensures.sound t less true is) w.list-is w.tally-is
-          (w.push_three.ensures k (in_gate own c.requires.steps c.parties.ensures.sound t less c.args.counts c.requires.counts is k refl) c.loop-gate.invariant)
+          same_deals own (k + 3) (first_of_gate x (t + 1)) _ _ _ _ (next_gate own c.requires.steps c.recall.ensures t less true is) w.list-is w.tally-is
+          (w.push_three.ensures k (in_gate own c.requires.steps c.recall.ensures t less c.args.counts c.requires.counts is k refl) c.loop-gate.invariant)
       | else-is_product w ↦
           let linear = found_product x _ c.part.ensures _ c.gates-gate-items.ensures t c.loop-gate-test.true _ false c.is_product.ensures w.if-is_product.false in
           let is = ap₂ (λ a b. a && b) c.requires.prepared linear in
-          same_deals own (k + 1) (first_of_gate x (t + 1)) _ _ _ _ (next_gate own c.requires.steps c.parties.ensures.sound t less false is) w.list-is w.tally-is
-          (w.push_slot.ensures k (in_linear own c.requires.steps c.parties.ensures.sound t less linear k refl) c.loop-gate.invariant)
+          same_deals own (k + 1) (first_of_gate x (t + 1)) _ _ _ _ (next_gate own c.requires.steps c.recall.ensures t less false is) w.list-is w.tally-is
+          (w.push_slot.ensures k (in_linear own c.requires.steps c.recall.ensures t less linear k refl) c.loop-gate.invariant)
     ]

@@ -12,14 +12,14 @@ pub overflow_cast-tally : goal.overflow_cast-tally
 overflow_cast-tally c =
     let own = c.args.own.now in
     let next = c.requires.next in
-    let all = instructions_fit own.plan.now own.party own.session next.0 c.args.list.now c.args.tally.now next.2 c.args.count c.parties.ensures.sound c.requires.steps.session next.1.there next.1.instructions in
+    let all = instructions_fit own.plan.now own.party own.session next.0 c.args.list.now c.args.tally.now next.2 c.args.count c.recall.ensures c.requires.steps.session next.1.there next.1.instructions in
     omega (arith, all)
 
 pub overflow_add-tally : goal.overflow_add-tally
 overflow_add-tally c =
     let own = c.args.own.now in
     let next = c.requires.next in
-    let all = instructions_fit own.plan.now own.party own.session next.0 c.args.list.now c.args.tally.now next.2 c.args.count c.parties.ensures.sound c.requires.steps.session next.1.there next.1.instructions in
+    let all = instructions_fit own.plan.now own.party own.session next.0 c.args.list.now c.args.tally.now next.2 c.args.count c.recall.ensures c.requires.steps.session next.1.there next.1.instructions in
     omega (arith, all)
 
 pub returns : goal.returns

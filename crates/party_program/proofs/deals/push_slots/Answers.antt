@@ -37,8 +37,8 @@ overflow_add-tally-in-loop-k c =
     let k = c.loop-k.k in
     let lk : k < slots plan c.args.own.now.session = omega (arith, c.requires.slots.1) in
     let its = c.pattern-pattern in
-    let all = as_many plan c.args.own.now.party c.args.own.now.session k c.args.own.now.heads.now c.args.own.now.tails.now c.requires.steps.heads c.requires.steps.tails c.parties.ensures.sound c.requires.steps.session lk its.result its.ensures.is c.of.result.now c.of-in-loop-k.result.now c.of.ensures c.of-in-loop-k.ensures in
-    let fits = instructions_fit plan c.args.own.now.party c.args.own.now.session k c.loop-k.list c.loop-k.tally c.loop-k.invariant _ c.parties.ensures.sound c.requires.steps.session lk all in
+    let all = as_many plan c.args.own.now.party c.args.own.now.session k c.args.own.now.heads.now c.args.own.now.tails.now c.requires.steps.heads c.requires.steps.tails c.recall.ensures c.requires.steps.session lk its.result its.ensures.is c.of.result.now c.of-in-loop-k.result.now c.of.ensures c.of-in-loop-k.ensures in
+    let fits = instructions_fit plan c.args.own.now.party c.args.own.now.session k c.loop-k.list c.loop-k.tally c.loop-k.invariant _ c.recall.ensures c.requires.steps.session lk all in
     omega arith
 
 pub overflow_cast-tally : goal.overflow_cast-tally
@@ -47,8 +47,8 @@ overflow_cast-tally c =
     let k = c.loop-k.k in
     let lk : k < slots plan c.args.own.now.session = omega (arith, c.requires.slots.1) in
     let its = c.pattern-pattern in
-    let all = as_many plan c.args.own.now.party c.args.own.now.session k c.args.own.now.heads.now c.args.own.now.tails.now c.requires.steps.heads c.requires.steps.tails c.parties.ensures.sound c.requires.steps.session lk its.result its.ensures.is c.of.result.now c.of-in-loop-k.result.now c.of.ensures c.of-in-loop-k.ensures in
-    let fits = instructions_fit plan c.args.own.now.party c.args.own.now.session k c.loop-k.list c.loop-k.tally c.loop-k.invariant _ c.parties.ensures.sound c.requires.steps.session lk all in
+    let all = as_many plan c.args.own.now.party c.args.own.now.session k c.args.own.now.heads.now c.args.own.now.tails.now c.requires.steps.heads c.requires.steps.tails c.recall.ensures c.requires.steps.session lk its.result its.ensures.is c.of.result.now c.of-in-loop-k.result.now c.of.ensures c.of-in-loop-k.ensures in
+    let fits = instructions_fit plan c.args.own.now.party c.args.own.now.session k c.loop-k.list c.loop-k.tally c.loop-k.invariant _ c.recall.ensures c.requires.steps.session lk all in
     omega arith
 
 pub overflow_add-tally : goal.overflow_add-tally
@@ -57,8 +57,8 @@ overflow_add-tally c =
     let k = c.loop-k.k in
     let lk : k < slots plan c.args.own.now.session = omega (arith, c.requires.slots.1) in
     let its = c.pattern-pattern in
-    let all = as_many plan c.args.own.now.party c.args.own.now.session k c.args.own.now.heads.now c.args.own.now.tails.now c.requires.steps.heads c.requires.steps.tails c.parties.ensures.sound c.requires.steps.session lk its.result its.ensures.is c.of.result.now c.of-in-loop-k.result.now c.of.ensures c.of-in-loop-k.ensures in
-    let fits = instructions_fit plan c.args.own.now.party c.args.own.now.session k c.loop-k.list c.loop-k.tally c.loop-k.invariant _ c.parties.ensures.sound c.requires.steps.session lk all in
+    let all = as_many plan c.args.own.now.party c.args.own.now.session k c.args.own.now.heads.now c.args.own.now.tails.now c.requires.steps.heads c.requires.steps.tails c.recall.ensures c.requires.steps.session lk its.result its.ensures.is c.of.result.now c.of-in-loop-k.result.now c.of.ensures c.of-in-loop-k.ensures in
+    let fits = instructions_fit plan c.args.own.now.party c.args.own.now.session k c.loop-k.list c.loop-k.tally c.loop-k.invariant _ c.recall.ensures c.requires.steps.session lk all in
     omega arith
 
 pub loop-k-preserved : goal.loop-k-preserved
@@ -69,7 +69,7 @@ loop-k-preserved c =
     let k = c.loop-k.k in
     let lk : k < slots plan s = omega (arith, c.requires.slots.1) in
     let its = c.pattern-pattern in
-    let all = as_many plan p s k c.args.own.now.heads.now c.args.own.now.tails.now c.requires.steps.heads c.requires.steps.tails c.parties.ensures.sound c.requires.steps.session lk its.result its.ensures.is c.of.result.now c.of-in-loop-k.result.now c.of.ensures c.of-in-loop-k.ensures in
+    let all = as_many plan p s k c.args.own.now.heads.now c.args.own.now.tails.now c.requires.steps.heads c.requires.steps.tails c.recall.ensures c.requires.steps.session lk its.result its.ensures.is c.of.result.now c.of-in-loop-k.result.now c.of.ensures c.of-in-loop-k.ensures in
     let added : c.from.result ≡ (if deals_in plan s p (slot plan s k) then 1 else 0) =
     c.from.ensures
     ∙ as_number c.deals_in.result

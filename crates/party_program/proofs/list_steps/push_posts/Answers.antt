@@ -10,7 +10,7 @@ use Rattle.party_program.proofs.list_steps.push_posts.Goals as goal
 
 pub overflow_cast-step : goal.overflow_cast-step
 overflow_cast-step c =
-    let few = few_transfers c.args.plan.now c.parties.ensures.sound c.args.pattern in
+    let few = few_transfers c.args.plan.now c.recall.ensures c.args.pattern in
     let long = ap (length {A = Transfer}) c.transfers-transfers.ensures in
     omega arith
 

@@ -4,12 +4,12 @@ use Rattle.std.specs.Global.{Vec}
 use Rattle.std.proofs.lemmas.Bool.{cases_eq, cases_lt, eqb-true}
 use Rattle.session_slots.specs.declared.source.Source.TheVariants.{Earlier}
 use Rattle.session_slots.specs.declared.values.KeptWire.{KeptWire}
-use Rattle.session_slots.specs.Sessions.{Session, carries, no_kept, owners, readers, session_at, source}
+use Rattle.session_slots.specs.Sessions.{Session, carries, no_kept, readers, session_at, source}
 use Rattle.session_slots.specs.Carries.{IsKeptAt, kept_from, kept_place}
-use Rattle.session_slots.specs.SlotNumbers.{first_input, first_of_gate}
+use Rattle.session_slots.specs.SlotNumbers.{first_of_gate}
 use Rattle.job_session.proofs.Carries.{kept_have_places}
 use Rattle.session_slots.proofs.SessionSlots.{slots_are_numbered}
-use Rattle.job_plan.specs.Plans.{IsPlan, Plan, keeping_slot, session, slots}
+use Rattle.job_plan.specs.Plans.{IsPlan, Plan, keeping_slot, session}
 use Rattle.job_plan.specs.Firsts.{first}
 use Rattle.job_plan.proofs.KeptPlaces.{kept_in}
 use Rattle.job_plan.proofs.PlanSchemes.{plan_is}
@@ -60,7 +60,7 @@ overflow_add-first_kept c =
     let plan = c.args.plan.now in
     let r = c.args.r in
     let begin = begin_at plan r c.first_output_slot.result c.output_wires.result c.part-part.result.now c.part-part.ensures c.first_output_slot.ensures c.output_wires.ensures in
-    let own = (c.parties.ensures.sound.sessions r (omega (arith, c.requires.earlier, c.requires.session))).wired in
+    let own = (c.recall.ensures.sessions r (omega (arith, c.requires.earlier, c.requires.session))).wired in
     omega (arith, begin, few_slots (session plan r) own, (slots_are_numbered (session plan r)).count)
 
 pub overflow_add-first_kept-then-kept-s : goal.overflow_add-first_kept-then-kept-s
@@ -68,8 +68,8 @@ overflow_add-first_kept-then-kept-s c =
     let plan = c.args.plan.now in
     let r = c.args.r in
     let begin = begin_at plan r c.first_output_slot.result c.output_wires.result c.part-part.result.now c.part-part.ensures c.first_output_slot.ensures c.output_wires.ensures in
-    let own = (c.parties.ensures.sound.sessions r (omega (arith, c.requires.earlier, c.requires.session))).wired in
-    let there = within plan (plan_is plan c.parties.ensures.sound) r c.args.s c.loop-place.place c.part-part.result.now c.kept-kept-items.result.now c.part-part.ensures c.kept-kept-items.ensures (omega (arith, c.loop-place-test.true, c.loop-place.auto.place-end)) c.requires.session in
+    let own = (c.recall.ensures.sessions r (omega (arith, c.requires.earlier, c.requires.session))).wired in
+    let there = within plan (plan_is plan c.recall.ensures) r c.args.s c.loop-place.place c.part-part.result.now c.kept-kept-items.result.now c.part-part.ensures c.kept-kept-items.ensures (omega (arith, c.loop-place-test.true, c.loop-place.auto.place-end)) c.requires.session in
     omega (arith, begin, there, few_slots (session plan r) own, (slots_are_numbered (session plan r)).count)
 
 pub first-first-requires-clause-slot : goal.first-first-requires-clause-slot
@@ -77,13 +77,13 @@ first-first-requires-clause-slot c =
     let plan = c.args.plan.now in
     let r = c.args.r in
     let begin = begin_at plan r c.first_output_slot.result c.output_wires.result c.part-part.result.now c.part-part.ensures c.first_output_slot.ensures c.output_wires.ensures in
-    let there = within plan (plan_is plan c.parties.ensures.sound) r c.args.s c.loop-place.place c.part-part.result.now c.kept-kept-items.result.now c.part-part.ensures c.kept-kept-items.ensures (omega (arith, c.loop-place-test.true, c.loop-place.auto.place-end)) c.requires.session in
+    let there = within plan (plan_is plan c.recall.ensures) r c.args.s c.loop-place.place c.part-part.result.now c.kept-kept-items.result.now c.part-part.ensures c.kept-kept-items.ensures (omega (arith, c.loop-place-test.true, c.loop-place.auto.place-end)) c.requires.session in
     omega (arith, begin, there, (slots_are_numbered (session plan r)).count)
 
 pub loop-place-preserved : goal.loop-place-preserved
 loop-place-preserved c =
     let plan = c.args.plan.now in
-    let is = plan_is plan c.parties.ensures.sound in
+    let is = plan_is plan c.recall.ensures in
     let r = c.args.r in
     let s = c.args.s in
     let j = c.loop-place.place in
@@ -126,7 +126,7 @@ returns c = λ v q i j less e.
     let s = c.args.s in
     elim (cases_eq q c.args.r) [
       | inl same ↦
-          let at = kept_in plan (plan_is plan c.parties.ensures.sound) s v q i j e in
+          let at = kept_in plan (plan_is plan c.recall.ensures) s v q i j e in
           let kept = c.kept-kept-items.ensures ∙ ap (λ (x : Session). x.kept) c.part-part.ensures in
           let place = subst (λ r. kept_place plan.sessions s v < length (session plan r).kept) same at.place in
           subst (IsReceived plan s c.loop-place.received.items v) (sym same)

@@ -18,7 +18,7 @@ word_read n v r f xs e l h = h ∙ get_or_default_zero xs v r (omega (arith, ap 
 
 pub overflow_cast-wire-end : goal.overflow_cast-wire-end
 overflow_cast-wire-end c =
-    let sound = c.parties.ensures.sound.sessions c.args.s c.requires.session in
+    let sound = c.recall.ensures.sessions c.args.s c.requires.session in
     let wires = sound.wired.wires in let inputs = sound.wired.input_wires in
     let same : length (owners c.part-part.result.now) ≡ length (owners (session c.args.plan.now c.args.s)) = ap (λ y. length (owners y)) c.part-part.ensures in
     omega arith
@@ -48,7 +48,7 @@ member_gives-requires c p from =
     let same : length (owners c.part-part.result.now) ≡ length (owners x) = ap (λ y. length (owners y)) c.part-part.ensures in
     let lv : v < length (owners x) = omega (arith, c.loop-wire-test.true, c.input_wires-wire-end.ensures) in
     let own : c.source.result ≡ source x v = c.source.ensures ∙ ap (λ y. source y v) c.part-part.ensures in
-    let party = (c.parties.ensures.sound.sessions c.args.s c.requires.session).owned v p lv (sym own ∙ from) in
+    let party = (c.recall.ensures.sessions c.args.s c.requires.session).owned v p lv (sym own ∙ from) in
     omega (arith, party, c.requires.group)
 
 pub returns-then-differ : goal.returns-then-differ

@@ -41,7 +41,7 @@ bounds-lists-kept c =
     let kept_is : c.kept-kept-items.result.now ≡ (session plan c.args.s).kept = c.kept-kept-items.ensures ∙ ap (λ (y : Session). y.kept) c.part-part.ensures in
     let j = c.loop-kept.kept-index in
     let in_list : j < length c.kept-kept-items.result.now = omega (arith, c.loop-kept-test.true, c.loop-kept.auto.kept-index-end) in
-    omega (arith, in_session plan c.parties.ensures.sound c.args.s j c.kept-kept-items.result.now kept_is in_list, c.loop-kept.invariant.sessions)
+    omega (arith, in_session plan c.recall.ensures c.args.s j c.kept-kept-items.result.now kept_is in_list, c.loop-kept.invariant.sessions)
 
 pub index_mut-requires : goal.index_mut-requires
 index_mut-requires c =
@@ -49,7 +49,7 @@ index_mut-requires c =
     let kept_is : c.kept-kept-items.result.now ≡ (session plan c.args.s).kept = c.kept-kept-items.ensures ∙ ap (λ (y : Session). y.kept) c.part-part.ensures in
     let j = c.loop-kept.kept-index in
     let in_list : j < length c.kept-kept-items.result.now = omega (arith, c.loop-kept-test.true, c.loop-kept.auto.kept-index-end) in
-    let in_plan = in_session plan c.parties.ensures.sound c.args.s j c.kept-kept-items.result.now kept_is in_list in
+    let in_plan = in_session plan c.recall.ensures c.args.s j c.kept-kept-items.result.now kept_is in_list in
     let kept : KeptWire = slice_index_or c.kept-kept-items.result.now j no_kept in
     let old : Vec ℕ = slice_index_or c.loop-kept.lists kept.session c.index-lists-kept.result in
     let read : old.items ≡ slice_index_or (session_words c.loop-kept.lists) kept.session [] =
@@ -58,8 +58,8 @@ index_mut-requires c =
       arith,
       ap (length {A = ℕ}) read,
       c.loop-kept.invariant.lengths kept.session,
-      c.requires.inputs kept.session (later plan c.parties.ensures.sound c.args.s j c.kept-kept-items.result.now kept_is in_list) in_plan,
-      within plan c.parties.ensures.sound c.args.s j c.kept-kept-items.result.now kept_is in_list,
+      c.requires.inputs kept.session (later plan c.recall.ensures c.args.s j c.kept-kept-items.result.now kept_is in_list) in_plan,
+      within plan c.recall.ensures c.args.s j c.kept-kept-items.result.now kept_is in_list,
     )
 
 pub loop-kept-preserved : goal.loop-kept-preserved
@@ -67,7 +67,7 @@ loop-kept-preserved c =
     let plan = c.args.plan.now in
     let s = c.args.s in
     let x : Session = session plan s in
-    let sound = c.parties.ensures.sound in
+    let sound = c.recall.ensures in
     let kept_is : c.kept-kept-items.result.now ≡ x.kept = c.kept-kept-items.ensures ∙ ap (λ (y : Session). y.kept) c.part-part.ensures in
     let j = c.loop-kept.kept-index in
     let in_list : j < length c.kept-kept-items.result.now = omega (arith, c.loop-kept-test.true, c.loop-kept.auto.kept-index-end) in
@@ -118,6 +118,6 @@ pub returns-clause-handed_on : goal.returns-clause-handed_on
 returns-clause-handed_on c =
     let plan = c.args.plan.now in
     let kept_is : c.kept-kept-items.result.now ≡ (session plan c.args.s).kept = c.kept-kept-items.ensures ∙ ap (λ (y : Session). y.kept) c.part-part.ensures in
-    let keeps = c.parties.ensures.sound.kept in
+    let keeps = c.recall.ensures.kept in
     let old : ℕ → ℕ → ℕ = value_at (session_words c.args.lists.now) in
     all_handed_on plan keeps c.args.s (old c.args.s) old c.loop-kept.kept-index (value_at (session_words c.loop-kept.lists)) (omega (arith, ap (length {A = KeptWire}) kept_is, c.loop-kept-test.false, c.loop-kept.auto.kept-index-end)) (c.loop-kept.invariant.handed_on keeps)

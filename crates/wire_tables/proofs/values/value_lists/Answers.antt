@@ -53,7 +53,7 @@ run_gates-requires-clause-words c =
     let so_far = c.loop-s-2.invariant [] in
     let many = length-map c.loop-s-2.lists.items (λ (list : Vec ℕ). list.items) in
     let list_is : c.index_mut.result.now.items ≡ first_list w s s = row_read c.loop-s-2.lists.items s c.index_mut.result.now (omega (arith, ls, many, so_far.sessions)) c.index_mut.ensures.value ∙ so_far.behind s (omega arith) ls in
-    small_list w c.parties.ensures.sound c.requires.inputs s s c.index_mut.result.now.items list_is
+    small_list w c.recall.ensures c.requires.inputs s s c.index_mut.result.now.items list_is
 
 pub hand_on-requires-clause-sessions : goal.hand_on-requires-clause-sessions
 hand_on-requires-clause-sessions c =
@@ -88,7 +88,7 @@ loop-s-2-preserved c tapes =
     let run' : ListsSoFar w s (s + 1) (session_words c.deref_mut.result.now) = subst (λ xs. ListsSoFar w s (s + 1) (session_words xs)) (sym same) run in
     let next : ListsSoFar w (s + 1) (s + 1) (session_words new) =
     values_handed_on w s (session_words c.deref_mut.result.now) (session_words new) ls run'
-    (length-map new (λ (list : Vec ℕ). list.items) ∙ c.hand_on.ensures.sessions) c.hand_on.ensures.lengths c.hand_on.ensures.handed_on c.parties.ensures.sound in
+    (length-map new (λ (list : Vec ℕ). list.items) ∙ c.hand_on.ensures.sessions) c.hand_on.ensures.lengths c.hand_on.ensures.handed_on c.recall.ensures in
     let many : length new ≡ length old = omega (arith, c.hand_on.ensures.sessions, length-set c.loop-s-2.lists.items s c.run_gates.new.list, length-map c.loop-s-2.lists.items (λ (list : Vec ℕ). list.items), (c.loop-s-2.invariant tapes).sessions) in
     subst (λ xs. ListsSoFar w (s + 1) (s + 1) (session_words xs)) (sym (with_items_is (with_item c.loop-s-2.lists s c.run_gates.new.list) new (omega (arith, many, c.deref_mut.ensures.len, ap (length {A = Vec ℕ}) same)))) next
 

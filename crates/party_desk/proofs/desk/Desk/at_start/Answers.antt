@@ -15,14 +15,14 @@ pub returns : goal.returns
 returns c inputs r small many =
     record {
       position = refl;
-      desk = λ got. begins _ _ (record { sound = c.parties.ensures.sound; party = c.requires.party; session = c.requires.session; inputs = many; tape = c.requires.long }) refl refl r.program (c.len-instructions.ensures _ _ _ r.program) (first_place c.args.plan.now c.args.party c.args.session _ c.start-place.result r.program c.start-place.ensures) r.table refl refl refl c.left-piece.ensures r.inputs refl r.rows refl r.sums refl refl r.outputs small c.requires.words;
+      desk = λ got. begins _ _ (record { sound = c.recall.ensures; party = c.requires.party; session = c.requires.session; inputs = many; tape = c.requires.long }) refl refl r.program (c.len-instructions.ensures _ _ _ r.program) (first_place c.args.plan.now c.args.party c.args.session _ c.start-place.result r.program c.start-place.ensures) r.table refl refl refl c.left-piece.ensures r.inputs refl r.rows refl r.sums refl refl r.outputs small c.requires.words;
     }
 
 -- no party draws more words than a piece counts
 pub overflow_cast-piece : goal.overflow_cast-piece
 overflow_cast-piece c =
     let within = total_within (length c.args.plan.now.sessions) c.args.session (words c.args.plan.now c.args.party) c.requires.session in
-    let few = c.parties.ensures.sound.few_words c.args.party c.requires.party in
+    let few = c.recall.ensures.few_words c.args.party c.requires.party in
     let long = c.requires.long in
     let piece = c.left-piece.ensures in
     omega (arith, within, few, long, piece)

@@ -21,7 +21,7 @@ pub row-row-requires : goal.row-row-requires
 row-row-requires c =
     let plan = c.args.plan.now in
     let is = c.gate.ensures ∙ ap (λ (z : Session). gate z c.args.t) c.part-part.ensures in
-    let named = gate_named plan c.parties.ensures.sound c.args.s c.requires.session c.args.t c.requires.gate in
+    let named = gate_named plan c.recall.ensures c.args.s c.requires.session c.args.t c.requires.gate in
     subst (λ (g : Gate). g.output < length (arc_value c.args.self.now.table).rows.items) (sym is) (omega (arith, named, c.requires.fits.table.0.wires))
 
 pub join_row-requires-clause-masks : goal.join_row-requires-clause-masks

@@ -13,4 +13,4 @@ excess_summand-requires-clause-wire c =
     let side = c.in-Masked.side in
     let inside = subst (λ k. Inside (session plan c.args.s) (slot_of_kind k)) c.in-Masked.is c.requires.inside in
     let is = c.operand-wire.ensures ∙ ap (λ (g : Gate). operand g side) c.gate-in-Masked.ensures ∙ ap (λ (z : Session). operand (gate z t) side) c.requires.part in
-    subst (λ w. w < row_names (session plan c.args.s)) (sym is) (operand_named plan c.parties.ensures.sound c.args.s c.requires.session t side inside.0)
+    subst (λ w. w < row_names (session plan c.args.s)) (sym is) (operand_named plan c.recall.ensures c.args.s c.requires.session t side inside.0)

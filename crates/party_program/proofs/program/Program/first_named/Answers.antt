@@ -1,8 +1,7 @@
-use Rattle.std.proofs.Common.{rules, sym, ◌∙◌, inl, inr}
+use Rattle.std.proofs.Common.{sym, ◌∙◌, inl, inr}
 use Rattle.std.proofs.lemmas.Bool.{cases_lt}
 use Rattle.job_plan.specs.Plans.{slot, slots}
-use Rattle.job_plan.proofs.PlanSchemes.{plan_is}
-use Rattle.party_program.proofs.NamedSlots.{found_named, named_own, named_past}
+use Rattle.party_program.proofs.NamedSlots.{named_own, named_past}
 use Rattle.party_program.proofs.program.Program.first_named.Goals as goal
 
 pub returns : goal.returns

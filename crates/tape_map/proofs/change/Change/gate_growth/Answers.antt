@@ -41,26 +41,26 @@ module _ (plan : Plan) (change : Change) (fits : Fits plan change) (sound : IsSo
 
 pub row-x-requires : goal.row-x-requires
 row-x-requires c =
-    let sound = c.parties.ensures.sound.sessions c.args.self.now.session c.requires.fits.there in
+    let sound = c.recall.ensures.sessions c.args.self.now.session c.requires.fits.there in
     row_there c.args.plan.now c.args.self.now c.requires.fits sound _
     (read_gate c.args.plan.now c.args.self.now c.requires.fits sound c.part.result.now c.args.t c.gate-gate.result c.part.ensures c.requires.gate c.gate-gate.ensures).1
 
 pub row-y-requires : goal.row-y-requires
 row-y-requires c =
-    let sound = c.parties.ensures.sound.sessions c.args.self.now.session c.requires.fits.there in
+    let sound = c.recall.ensures.sessions c.args.self.now.session c.requires.fits.there in
     row_there c.args.plan.now c.args.self.now c.requires.fits sound _
     (read_gate c.args.plan.now c.args.self.now c.requires.fits sound c.part.result.now c.args.t c.gate-gate.result c.part.ensures c.requires.gate c.gate-gate.ensures).2
 
 pub index-moved_x-requires : goal.index-moved_x-requires
 index-moved_x-requires c =
-    let sound = c.parties.ensures.sound.sessions c.args.self.now.session c.requires.fits.there in
+    let sound = c.recall.ensures.sessions c.args.self.now.session c.requires.fits.there in
     let there = moved_there c.args.plan.now c.args.self.now c.requires.fits sound _
     (read_gate c.args.plan.now c.args.self.now c.requires.fits sound c.part.result.now c.args.t c.gate-gate.result c.part.ensures c.requires.gate c.gate-gate.ensures).1 in
     omega (arith, there, c.args.self.now.moved.ok.0)
 
 pub index-moved_y-requires : goal.index-moved_y-requires
 index-moved_y-requires c =
-    let sound = c.parties.ensures.sound.sessions c.args.self.now.session c.requires.fits.there in
+    let sound = c.recall.ensures.sessions c.args.self.now.session c.requires.fits.there in
     let there = moved_there c.args.plan.now c.args.self.now c.requires.fits sound _
     (read_gate c.args.plan.now c.args.self.now c.requires.fits sound c.part.result.now c.args.t c.gate-gate.result c.part.ensures c.requires.gate c.gate-gate.ensures).2 in
     omega (arith, there, c.args.self.now.moved.ok.0)
@@ -70,7 +70,7 @@ product_growth-requires c =
     let plan = c.args.plan.now in
     let self = c.args.self.now in
     let fits = c.requires.fits in
-    let sound = c.parties.ensures.sound.sessions self.session fits.there in
+    let sound = c.recall.ensures.sessions self.session fits.there in
     let at = read_gate plan self fits sound c.part.result.now c.args.t c.gate-gate.result c.part.ensures c.requires.gate c.gate-gate.ensures in
     record {
       party = c.requires.party;
@@ -85,7 +85,7 @@ returns-clause-is c =
     let plan = c.args.plan.now in
     let self = c.args.self.now in
     let fits = c.requires.fits in
-    let sound = c.parties.ensures.sound.sessions self.session fits.there in
+    let sound = c.recall.ensures.sessions self.session fits.there in
     let at = read_gate plan self fits sound c.part.result.now c.args.t c.gate-gate.result c.part.ensures c.requires.gate c.gate-gate.ensures in
     let moved : List (List ℕ) = session_words self.moved.items in
     c.product_growth.ensures.is

@@ -25,8 +25,8 @@ returns c =
         first =
             sym c.self.view_is
             ∙ ap lines_of (c.in-Some.ensures ∙ line_of_text names key word rest)
-            ∙ line_before (message_text names key word) rest (message_is_inner names c.len.ensures.names key word told);
-        right = λ n. is_no_fault names key word c.len.ensures.names told (message_text names key word) n refl;
+            ∙ line_before (message_text names key word) rest (message_is_inner names c.recall.ensures.names key word told);
+        right = λ n. is_no_fault names key word c.recall.ensures.names told (message_text names key word) n refl;
       };
       left = λ e. absurd (cc);
     }

@@ -25,7 +25,7 @@ index_mut-requires c =
     let kept_is : c.kept-kept-items.result.now ≡ (session plan c.args.s).kept = c.kept-kept-items.ensures ∙ ap (λ (y : Session). y.kept) c.part-part.ensures in
     let j = c.loop-kept.kept-index in
     let there : j < length (session plan c.args.s).kept = subst (λ xs. j < length xs) kept_is (omega (arith, c.loop-kept-test.true, c.loop-kept.auto.kept-index-end)) in
-    omega (arith, (is_kept_at plan c.parties.ensures.sound.kept c.args.s j there).session, c.loop-kept.invariant.sessions, ap (λ xs. (slice_index_or xs j no_kept).session) kept_is)
+    omega (arith, (is_kept_at plan c.recall.ensures.kept c.args.s j there).session, c.loop-kept.invariant.sessions, ap (λ xs. (slice_index_or xs j no_kept).session) kept_is)
 
 pub loop-kept-preserved : goal.loop-kept-preserved
 loop-kept-preserved c =
@@ -36,7 +36,7 @@ loop-kept-preserved c =
     let item : ℕ → List ℕ = λ v. slice_index_or (session_words c.args.rows.now) v [] in
     let kept_is : c.kept-kept-items.result.now ≡ x.kept = c.kept-kept-items.ensures ∙ ap (λ (y : Session). y.kept) c.part-part.ensures in
     let there : j < length x.kept = subst (λ xs. j < length xs) kept_is (omega (arith, c.loop-kept-test.true, c.loop-kept.auto.kept-index-end)) in
-    let wired = (c.parties.ensures.sound.sessions s c.requires.session).wired in
+    let wired = (c.recall.ensures.sessions s c.requires.session).wired in
     let kept : KeptWire = slice_index_or c.kept-kept-items.result.now j no_kept in
     let same : kept ≡ slice_index_or x.kept j no_kept = ap (λ xs. slice_index_or xs j no_kept) kept_is in
     let lists : List (List (List ℕ)) = input_words c.loop-kept.self-inside.rows.items in
@@ -44,7 +44,7 @@ loop-kept-preserved c =
     let of_rows : Vec (Vec ℕ) → List (List ℕ) = λ rows. session_words rows.items in
     let many = length-map c.loop-kept.self-inside.rows.items of_rows in
     let within : kept.session < length c.loop-kept.self-inside.rows.items =
-    omega (arith, (is_kept_at plan c.parties.ensures.sound.kept s j there).session, c.loop-kept.invariant.sessions, ap (λ (k : KeptWire). k.session) same) in
+    omega (arith, (is_kept_at plan c.recall.ensures.kept s j there).session, c.loop-kept.invariant.sessions, ap (λ (k : KeptWire). k.session) same) in
     let old_is : session_words c.index_mut.result.now.items ≡ slice_index_or lists kept.session [] =
     ap of_rows c.index_mut.ensures.value ∙ sym (get_or-map of_rows c.loop-kept.self-inside.rows.items kept.session c.index_mut.result.now [] within) in
     let cells = item_set [] c.in_ok-row.row.items lists new kept.session kept.wire (omega (arith, within, many)) (λ v.
@@ -69,5 +69,5 @@ pub returns-clause-handed_on : goal.returns-clause-handed_on
 returns-clause-handed_on c =
     let plan = c.args.plan.now in
     let kept_is : c.kept-kept-items.result.now ≡ (session plan c.args.s).kept = c.kept-kept-items.ensures ∙ ap (λ (y : Session). y.kept) c.part-part.ensures in
-    let keeps = c.parties.ensures.sound.kept in
+    let keeps = c.recall.ensures.kept in
     all_handed_on plan keeps c.args.s (λ v. slice_index_or (session_words c.args.rows.now) v []) (row_at c.args.self.now) c.loop-kept.kept-index (row_at (input_words c.loop-kept.self-inside.rows.items)) (omega (arith, ap (length {A = KeptWire}) kept_is, c.loop-kept-test.false, c.loop-kept.auto.kept-index-end)) (c.loop-kept.invariant.handed_on keeps)
