@@ -57,7 +57,6 @@ pub fn pair_of(
     let second = match prepare(alloc, plan, other, pieces, 1) {
         Ok(second) => second,
         Err(_) => {
-            // By a call, which is one step of the proof.
             drop(first);
             return Err(MapFault::Memory);
         }

@@ -1,5 +1,5 @@
 -- How the steps of the walk follow each other.
-use Rattle.std.proofs.Common.{◌≡◌, ℕ, ◌≤◌, List, [], ◌++◌, None, Some, Result, Ok, Err, Vec, refl, arith, ◌∙◌, sym, subst, inl, inr}
+use Rattle.std.proofs.Common.{◌≡◌, ◌≢◌, ℕ, ◌≤◌, List, [], ◌++◌, None, Some, Result, Ok, Err, Vec, refl, arith, ◌∙◌, sym, subst, inl, inr}
 use Rattle.std.specs.Prelude.{IfSome, IfOk, IsErrAnd, IsTrue, MatchResult}
 use Rattle.std.specs.declared.alloc.Global.{Global}
 use Rattle.std.specs.declared.alloc.AllocError.{AllocError}
@@ -13,6 +13,7 @@ use Rattle.job_walk.specs.Verdict.{Verdict, accepted, missing, refused, Ends, Th
 use Rattle.job_walk.specs.JobOf.{Contents}
 use Rattle.job_walk.proofs.Asks.{asks_none, asks_then, part_none, part_more, part_then}
 use Rattle.job_walk.specs.Reads.{KeepsFiles, ReadsAs, StopsAt, Meets, WalksAs, StopsBy}
+use Rattle.job_walk.specs.Stops.{IsStopOf}
 
 le_trans : {a b c : ℕ} → a ≤ b → b ≤ c → a ≤ c
 le_trans {a} {b} {c} p q = omega arith
@@ -255,6 +256,20 @@ module _ (line : Result (Vec ℕ Global) AllocError) (stop : Stop) (text : List 
     line_stops : (line : Result (Vec ℕ Global) AllocError) → MatchResult line (λ l. stop ≡ Refused l) (λ e. stop ≡ Memory) → IfOk line (λ l. l.items ≡ text) → StopsAt walk before after dir stop
     line_stops (Ok l) made written = subst (StopsAt walk before after dir) (sym made) (quiet, subst (λ t. Meets walk before after (refused 3 t)) (sym written) is)
     line_stops (Err e) made written = subst (StopsAt walk before after dir) (sym made) quiet
+
+-- ---- the stop of a fault
+
+module _ {A : Type 0} (walk : Verdict A → Type 0) (number : ℕ) (line : List ℕ) where
+  -- it is the walk's, where the walk refuses with its line what is no want of memory
+  pub fault_walks : (stop : Stop) → IsStopOf number line stop → (number ≢ 0 → walk (refused 3 line)) → StopsBy walk stop
+  fault_walks Memory is refuses = tt
+  fault_walks Words is refuses = is
+  fault_walks Out is refuses = is
+  fault_walks Net is refuses = is
+  fault_walks (Peer names fault) is refuses = is
+  fault_walks (Files name) is refuses = is
+  fault_walks (Refused told) is refuses = subst (λ t. walk (refused 3 t)) (sym is.1) (refuses is.0)
+  fault_walks (Covering told) is refuses = absurd is
 
 -- nothing is left to read
 pub reads_end : {A C : Type 0} {dir : List ℕ} (seen : C → A) (now : FilesReading) (c : C) → ReadsAs dir [] seen (λ m. Ends (accepted (seen c))) now now (Ok c)

@@ -9,11 +9,10 @@ ghost use Rattle.job_walk.specs.Reads.{WalksAs};
 ghost use Rattle.job_walk.specs.Seen.{text_view};
 
 use crate::Stop;
-use crate::stop::refusal;
+use crate::stop::stop_of;
 use group_text::read_group;
 use party_names::Names;
 use party_set::Group;
-use refusal_text::group_line;
 use std::alloc::Global;
 
 /// The group that a text asks for, if there is a text.
@@ -41,13 +40,11 @@ fn some_group(alloc: Global, text: &str, names: &Names) -> Result<Option<Group>,
     Ok(Some(group))
 }
 
+#[tactic(auto, unfolding(refusal_text::specs::Lines::group_line))]
 fn group_of(alloc: Global, text: &str, names: &Names) -> Result<Group, Stop>
     ensures walks { WalksAs (λ group. group)
         (Ends (verdict_of group_line (group_in names.now text.now))) result }
     ensures parties { IfOk result (λ group. group.parties ≡ length names.now) }
 {
-    match read_group(text, names) {
-        Ok(group) => Ok(group),
-        Err(fault) => Err(refusal(group_line(alloc, fault))),
-    }
+    read_group(text, names).map_err(|fault| stop_of(alloc, None, &[], &fault))
 }

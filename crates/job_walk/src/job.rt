@@ -13,10 +13,9 @@ ghost use Rattle.job_walk.specs.Reads.{ReadsAs, WalksAs};
 use crate::Stop;
 use crate::file::read_file;
 use crate::file_log::FileLog;
-use crate::stop::refusal;
-use job_file::{Job, JobFault, read_job};
+use crate::stop::stop_of;
+use job_file::{Job, read_job};
 use outer_io::Files;
-use refusal_text::job_line;
 use std::alloc::Global;
 
 /// Reads the job's file, for a node or not.
@@ -38,13 +37,10 @@ pub(crate) fn read_job_text<F: Files, L: FileLog>(
     job_in(alloc, &bytes, node)
 }
 
+#[tactic(auto, unfolding(refusal_text::specs::Lines::job_line))]
 fn job_in(alloc: Global, bytes: &[u8], node: bool) -> Result<Job, Stop>
     ensures walks { WalksAs job_view (Ends (verdict_of job_line (job_in node bytes.now))) result }
     ensures is { IfOk result IsJob }
 {
-    match read_job(alloc, bytes, node) {
-        Ok(job) => Ok(job),
-        Err(JobFault::Memory) => Err(Stop::Memory),
-        Err(fault) => Err(refusal(job_line(alloc, &fault))),
-    }
+    read_job(alloc, bytes, node).map_err(|fault| stop_of(alloc, None, &[], &fault))
 }

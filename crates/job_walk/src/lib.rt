@@ -17,4 +17,4 @@ pub use file_log::{FileLog, NoLog};
 pub use node::{NodeJob, read_node};
 pub use party::read_party_file;
 pub use plan::{Planned, read_planned};
-pub use stop::{Stop, refusal};
+pub use stop::{Stop, stop_of};

@@ -10,11 +10,11 @@ ghost use Rattle.job_walk.specs.Reads.{ReadsAs, WalksAs};
 
 use crate::Stop;
 use crate::file::read_file;
-use crate::stop::refusal;
+use crate::stop::stop_of;
 use job_plan::Plan;
 use outer_io::Files;
-use party_file::{PartyData, PartyFault, read_party};
-use refusal_text::party_line;
+use party_file::{PartyData, read_party};
+use refusal_text::file_key;
 use std::alloc::{AllocError, Global};
 
 /// Reads the file of a party.
@@ -48,15 +48,17 @@ fn file_of(alloc: Global, name: &str) -> Result<String, AllocError>
     Ok(file)
 }
 
+#[tactic(auto, unfolding(refusal_text::specs::Lines::party_line))]
 fn party_in(alloc: Global, bytes: &[u8], plan: &Plan, p: u32, file: &str) -> Result<PartyData, Stop>
     requires { p < plan.now.parties }
     ensures walks { WalksAs form_of
         (Ends (verdict_of (party_line file.now) (party_in plan.now p bytes.now))) result }
     ensures fits { IfOk result (λ party. FitsPlan plan.now p (form_of party)) }
 {
-    match read_party(alloc, bytes, plan, p) {
-        Ok(party) => Ok(party),
-        Err(PartyFault::Memory) => Err(Stop::Memory),
-        Err(fault) => Err(refusal(party_line(alloc, file, &fault))),
-    }
+    read_party(alloc, bytes, plan, p).map_err(|fault| stop_of(
+        alloc,
+        None,
+        &[file_key(file)],
+        &fault,
+    ))
 }

@@ -19,7 +19,7 @@ use crate::file_log::NoLog;
 use crate::group::asked_group;
 use crate::job::read_job_text;
 use crate::sessions::read_sessions;
-use crate::stop::refusal;
+use crate::stop::stop_of;
 use crate::structure::structure_of;
 use job_file::Job;
 use job_limits::MOST_SESSIONS;
@@ -27,9 +27,7 @@ use job_plan::{Plan, SessionPart};
 use outer_io::Files;
 use party_names::Names;
 use party_set::{Group, Groups};
-use plan_faults::PlanFault;
 use product_duty::Duty;
-use refusal_text::plan_line;
 use share_layout::Layout;
 use std::alloc::Global;
 
@@ -112,7 +110,7 @@ fn read_rest<F: Files>(
     })
 }
 
-#[tactic(auto, unfolding(crate::specs::JobOf::PlanOf))]
+#[tactic(auto, unfolding(crate::specs::JobOf::PlanOf, refusal_text::specs::Lines::plan_line))]
 pub(crate) fn make_plan(
     alloc: Global,
     job: &Job,
@@ -130,9 +128,10 @@ pub(crate) fn make_plan(
 {
     let layout = Layout::make(alloc, groups)?;
     let duty = Duty::make(alloc, groups)?;
-    match Plan::make(alloc, job.ring, layout, duty, parts) {
-        Ok(plan) => Ok(plan),
-        Err(PlanFault::Memory) => Err(Stop::Memory),
-        Err(fault) => Err(refusal(plan_line(alloc, &job.names, fault))),
-    }
+    Plan::make(alloc, job.ring, layout, duty, parts).map_err(|fault| stop_of(
+        alloc,
+        Some(&job.names),
+        &[],
+        &fault,
+    ))
 }

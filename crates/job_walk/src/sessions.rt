@@ -17,17 +17,15 @@ ghost use Rattle.job_walk.specs.Reads.{ReadsAs, WalksAs};
 use crate::Stop;
 use crate::file::read_file;
 use crate::file_log::FileLog;
-use crate::stop::refusal;
+use crate::stop::stop_of;
 use circuit_model::{Circuit, CircuitFault, CircuitLayout};
-use expr_circuit::ExprFault;
 use job_file::{Job, JobOwner, JobSession, Products, SessionLayout};
 use job_limits::MOST_SESSIONS;
 use job_plan::{Owner, SessionPart};
 use mpc_ring::Ring;
 use outer_io::Files;
 use party_set::Group;
-use plan_faults::PartFault;
-use refusal_text::{circuit_line, expressions_line, session_line};
+use refusal_text::{file_key, session_key};
 use std::alloc::{AllocError, Global};
 
 /// Reads the circuits of the sessions.
@@ -117,6 +115,7 @@ fn circuit_of(
     }
 }
 
+#[tactic(auto, unfolding(refusal_text::specs::Lines::circuit_line))]
 fn circuit_of_gates(
     alloc: Global,
     bytes: &[u8],
@@ -128,14 +127,15 @@ fn circuit_of_gates(
     ensures { WalksAs (λ circuit. circuit)
         (Ends (verdict_of (circuit_line file.now s) (circuit_in layout ring bytes.now))) result }
 {
-    match read_circuit(alloc, bytes, layout, ring) {
-        Ok(circuit) => Ok(circuit),
-        Err(CircuitFault::Memory) => Err(Stop::Memory),
-        Err(fault) => Err(refusal(circuit_line(alloc, file, s, fault))),
-    }
+    read_circuit(alloc, bytes, layout, ring).map_err(|fault| stop_of(
+        alloc,
+        None,
+        &[file_key(file), session_key(s)],
+        &fault,
+    ))
 }
 
-#[tactic(auto, unfolding(crate::specs::JobOf::ExpressionsOf))]
+#[tactic(auto, unfolding(crate::specs::JobOf::ExpressionsOf, refusal_text::specs::Lines::expressions_line))]
 fn circuit_of_expressions(
     alloc: Global,
     bytes: &[u8],
@@ -146,14 +146,16 @@ fn circuit_of_expressions(
     ensures { WalksAs (λ circuit. circuit)
         (ExpressionsOf (expressions_line file.now s) ring bytes.now) result }
 {
-    match expr_circuit::read(alloc, bytes, ring) {
-        Ok(circuit) => Ok(circuit),
-        Err(ExprFault::Memory) => Err(Stop::Memory),
-        Err(fault) => Err(refusal(expressions_line(alloc, file, s, fault))),
-    }
+    expr_circuit::read(alloc, bytes, ring).map_err(|fault| stop_of(
+        alloc,
+        None,
+        &[file_key(file), session_key(s)],
+        &fault,
+    ))
 }
 
 // The session of a circuit, behind those before it.
+#[tactic(auto, unfolding(refusal_text::specs::Lines::session_line))]
 fn part_of(
     alloc: Global,
     circuit: Circuit,
@@ -174,8 +176,7 @@ fn part_of(
     let readers = readers_of(session)?;
     match SessionPart::make(alloc, circuit, owners, readers, before) {
         Ok(part) => Ok(with_products(alloc, part, session.products)?),
-        Err(PartFault::Memory) => Err(Stop::Memory),
-        Err(fault) => Err(refusal(session_line(alloc, before.len() as u32, fault))),
+        Err(fault) => Err(stop_of(alloc, None, &[session_key(before.len() as u32)], &fault)),
     }
 }
 

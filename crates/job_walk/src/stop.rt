@@ -1,10 +1,16 @@
 //! Why a call stops.
-ghost use Rattle.std.specs.Prelude.{◌≡◌, MatchResult};
+ghost use Rattle.std.specs.Prelude.{◌≡◌, [], MatchResult, map};
+ghost use Rattle.std.specs.Option.{option_map_or};
+ghost use Rattle.fault_table.specs.Tables.{told_key};
+ghost use Rattle.refusal_text.specs.Lines.{refusal_line};
+ghost use Rattle.job_walk.specs.Stops.{IsStopOf};
 
+use fault_table::EntryKey;
 use node_talk::NodeFault;
 use outer_io::Failed;
 use party_names::Names;
-use std::alloc::{AllocError, AllocFailed};
+use refusal_text::{Fault, fault_line};
+use std::alloc::{AllocError, AllocFailed, Global};
 
 /// Why a call stops before its end.
 #[derive(Drop)]
@@ -53,6 +59,20 @@ pub fn refusal(line: Result<Vec<u8>, AllocError>) -> Stop
         Ok(line) => Stop::Refused(line),
         Err(_) => Stop::Memory,
     }
+}
+
+/// The stop of a fault: the refusal with its line, in which these keys stand in front of its own, unless the fault is
+/// want of memory.
+pub fn stop_of<F: Fault>(
+    alloc: Global,
+    names: Option<&Names>,
+    front: &[EntryKey],
+    fault: &F,
+) -> Stop
+    ensures { IsStopOf (F.entry fault.now).number (refusal_line (F.part fault.now)
+        (option_map_or (λ n. n.now) names.entry []) (map told_key front.now) (F.entry fault.now)) result }
+{
+    refusal(fault_line(alloc, names, front, fault))
 }
 
 impl From<AllocError> for Stop {

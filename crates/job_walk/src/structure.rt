@@ -9,14 +9,14 @@ ghost use Rattle.job_walk.specs.JobOf.{FormulaOf, groups_of, GroupsOf, Q2Of, Str
 ghost use Rattle.job_walk.specs.Reads.{WalksAs};
 
 use crate::Stop;
-use crate::stop::refusal;
-use group_formula::{Formula, FormulaFault, read_formula};
+use crate::stop::stop_of;
+use group_formula::{Formula, read_formula};
 use job_file::{Adversary, Job};
-use maximal_groups::{Family, GroupsFault, Listed, find_groups};
+use maximal_groups::{Family, Listed, find_groups};
 use party_names::Names;
 use party_set::{Group, Groups};
 use q2_test::covering_pair;
-use refusal_text::{covering_line, formula_line, groups_line};
+use refusal_text::covering_line;
 use std::alloc::Global;
 
 /// The maximal tolerated groups of a job, of which no two together are all parties.
@@ -51,16 +51,12 @@ fn groups_of_formula(alloc: Global, text: &str, names: &Names) -> Result<Groups,
     groups_of(alloc, &formula)
 }
 
-#[tactic(auto, unfolding(crate::specs::JobOf::FormulaOf))]
+#[tactic(auto, unfolding(crate::specs::JobOf::FormulaOf, refusal_text::specs::Lines::formula_line))]
 fn formula_of(alloc: Global, text: &str, names: &Names) -> Result<Formula, Stop>
     ensures walks { WalksAs (λ formula. formula) (FormulaOf names.now text.now) result }
     ensures parties { IfOk result (λ formula. formula.parties ≡ length names.now) }
 {
-    match read_formula(alloc, text, names) {
-        Ok(formula) => Ok(formula),
-        Err(FormulaFault::Memory) => Err(Stop::Memory),
-        Err(fault) => Err(refusal(formula_line(alloc, fault))),
-    }
+    read_formula(alloc, text, names).map_err(|fault| stop_of(alloc, None, &[], &fault))
 }
 
 #[tactic(auto, unfolding(crate::specs::JobOf::GroupsOf))]
@@ -74,17 +70,13 @@ fn groups_of_list(alloc: Global, groups: &[Group], names: &Names) -> Result<Grou
     groups_of(alloc, &listed)
 }
 
-#[tactic(auto, unfolding(crate::specs::JobOf::groups_of, crate::specs::JobOf::few_groups))]
+#[tactic(auto, unfolding(crate::specs::JobOf::groups_of, crate::specs::JobOf::few_groups, refusal_text::specs::Lines::groups_line))]
 fn groups_of<F: Family>(alloc: Global, family: &F) -> Result<Groups, Stop>
     ensures walks { WalksAs (λ groups. groups)
         (Ends (groups_of (F.count family.now) (F.is_tolerated family.now))) result }
     ensures parties { IfOk result (λ groups. groups.parties ≡ F.count family.now) }
 {
-    match find_groups(alloc, family) {
-        Ok(groups) => Ok(groups),
-        Err(GroupsFault::TooManyGroups { found }) => Err(refusal(groups_line(alloc, found))),
-        Err(GroupsFault::Memory) => Err(Stop::Memory),
-    }
+    find_groups(alloc, family).map_err(|fault| stop_of(alloc, None, &[], &fault))
 }
 
 #[tactic(auto, unfolding(crate::specs::JobOf::Q2Of))]
@@ -97,9 +89,6 @@ fn with_q2(alloc: Global, job: &Job, groups: Groups) -> Result<Groups, Stop>
     let Some((first, second)) = covering_pair(&groups) else {
         return Ok(groups);
     };
-    let line = covering_line(alloc, &job.names, groups.get(first), groups.get(second));
-    match line {
-        Ok(line) => Err(Stop::Covering(line)),
-        Err(_) => Err(Stop::Memory),
-    }
+    let line = covering_line(alloc, &job.names, groups.get(first), groups.get(second))?;
+    Err(Stop::Covering(line))
 }

@@ -1,6 +1,6 @@
 -- The maximal groups as a list.
-use Rattle.std.proofs.Common.{◌≡◌, ◌≢◌, ℕ, suc, ◌+◌, ◌^◌, ◌<◌, ◌≤◌, inl, inr, Bool, true, false, not, ◌&&◌, ◌||◌, List, [], ◌∷◌, ◌++◌, length, map, Option, Some, None, refl, sym, ◌∙◌, ap, ap₂, subst, arith, nat_lt, length-append}
-use Rattle.std.specs.Prelude.{bit_or, slice_index, filter, All, SomeIff}
+use Rattle.std.proofs.Common.{◌≡◌, ◌≢◌, ℕ, suc, ◌+◌, ◌^◌, ◌<◌, ◌≤◌, inl, inr, Bool, true, false, not, ◌&&◌, ◌||◌, List, [], ◌∷◌, ◌++◌, length, map, refl, sym, ◌∙◌, ap, ap₂, subst, arith, nat_lt, length-append}
+use Rattle.std.specs.Prelude.{bit_or, slice_index, filter, All}
 use Rattle.std.specs.List.{range_with_len}
 use Rattle.std.proofs.lemmas.Nat.{le_or_l, pow_pos}
 use Rattle.std.proofs.lemmas.Bool.{ltb-true, ltb-false, and_parts, and_from, not_from_false, not-true, false_from_ne_true}
@@ -98,10 +98,6 @@ antichain n t some few nobody fits = record {
         go : (b : Bool) → nat_lt i j ≡ b → ⊥
         go true f = omega (arith, rising (is_maximal n t) 0 (2 ^ n) i j (ltb-true i j f) lj, e)
         go false f = omega (arith, rising (is_maximal n t) 0 (2 ^ n) j i (omega (arith, ltb-false i j f, ne)) li, e)
-
-pub some_is : {A : Type 0} (P : Type 0) (o : Option A) (x v : A) → SomeIff o P v → o ≡ Some x → x ≡ v
-some_is P None x v h e = cc
-some_is P (Some y) x v h e = let same : y ≡ x = cc in sym same ∙ h.1
 
 abbrev pub masks : List Members → List ℕ
 masks groups = map (λ (m : Members). m.mask) groups

@@ -4,7 +4,7 @@ ghost use Rattle.maximal_groups.specs.Families.{is_maximal, maximal_structure, I
 ghost use Rattle.maximal_groups.specs.Found.{Finds};
 
 use crate::family::Family;
-use party_set::{Group, Groups, MOST_GROUPS, MOST_PARTIES};
+use party_set::{Group, Groups, MOST_GROUPS, MOST_PARTIES, group_of_mask};
 use std::alloc::{AllocError, AllocFailed, Global};
 
 /// Why no list of the maximal tolerated groups was given.
@@ -52,7 +52,7 @@ pub fn find_groups<F: Family>(alloc: Global, family: &F) -> Result<Groups, Group
     let parties = family.parties();
     let mut groups = Vec::new(alloc);
     for mask in 0..1u32 << parties {
-        let group = Group::of_mask(mask, parties).unwrap();
+        let group = group_of_mask(mask, parties);
         if is_maximal(family, group) {
             if groups.len() == MOST_GROUPS {
                 return Err(GroupsFault::TooManyGroups {

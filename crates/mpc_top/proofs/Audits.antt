@@ -1,25 +1,18 @@
 -- An audit that was read, step by step.
-use Rattle.std.proofs.Common.{◌≡◌, ℕ, List, [], ◌∷◌, ◌++◌, None, Result, Ok, Err, Vec, refl, arith}
+use Rattle.std.proofs.Common.{ℕ, List, [], ◌∷◌, ◌++◌, None, Result, Ok, Err, Vec}
 use Rattle.std.specs.declared.alloc.Global.{Global}
 use Rattle.outer_io.specs.Files.{FilesReading}
 use Rattle.command_words.specs.Commands.{audit}
 use Rattle.party_file.specs.declared.data.PartyData.{PartyData}
-use Rattle.job_plan.specs.declared.key.Key.{Key}
 use Rattle.share_world.specs.Worlds.{view}
-use Rattle.view_check.specs.declared.fault.CheckFault.{CheckFault}
-use Rattle.view_check.specs.declared.fault.CheckFault.TheVariants.{WrongWord}
-use Rattle.view_check.specs.Views.{verdict}
-use Rattle.view_check.specs.Laws.{IsWrongWord}
-use Rattle.refusal_text.specs.Lines.{view_line}
 use Rattle.output_text.specs.AuditText.{yes_text}
 use Rattle.job_walk.specs.declared.plan.Planned as code
 use Rattle.job_walk.specs.declared.stop.Stop.{Stop}
-use Rattle.job_walk.specs.declared.stop.Stop.TheVariants.{Memory, Words, Out, Net, Peer, Files, Refused, Covering}
 use Rattle.job_walk.specs.Names.{view_file}
-use Rattle.job_walk.specs.Verdict.{Verdict, Ends, refused}
+use Rattle.job_walk.specs.Verdict.{Verdict, Ends}
 use Rattle.job_walk.specs.JobOf.{PlanAt, PartiesAfter, file_at}
 use Rattle.job_walk.specs.Seen.{planned_view}
-use Rattle.job_walk.specs.Reads.{ReadsAs, WalksAs, StopsBy}
+use Rattle.job_walk.specs.Reads.{ReadsAs, WalksAs}
 use Rattle.mpc_top.specs.WholeJobs.{WholeJob}
 use Rattle.mpc_top.specs.Audits.{Judged, AuditAt}
 use Rattle.mpc_top.specs.Seen.{parties_view}
@@ -35,29 +28,6 @@ counted count = count
 -- the bytes that were read
 abbrev pub text_seen : Vec ℕ Global → List ℕ
 text_seen text = text.items
-
--- ---- the fault of a view
-
-same_line : (line line' : List ℕ) (v w : Verdict ℕ) → v ≡ refused 3 line → w ≡ refused 3 line' → v ≡ w → line ≡ line'
-same_line line line' v w e f same = cc
-
-same_status : (s s' : ℕ) (line line' : List ℕ) (v w : Verdict ℕ) → v ≡ refused s line → w ≡ refused s' line' → v ≡ w → s ≡ s'
-same_status s s' line line' v w e f same = cc
-
-not_covering : {P : Type 0} (line line' : List ℕ) (v w : Verdict ℕ) → v ≡ refused 4 line → w ≡ refused 3 line' → v ≡ w → P
-not_covering line line' v w e f same = absurd (omega (arith, same_status 4 3 line line' v w e f same))
-
-module _ (names : List (List ℕ)) (see : ℕ → List (Key × ℕ)) (text : List ℕ) (fault : CheckFault) (is : verdict names see text ≡ Err fault)
-    (wrong : (n wanted found : ℕ) → fault ≡ WrongWord n wanted found → IsWrongWord names see text n wanted found) where
-  pub fault_stops : (stop : Stop) → StopsBy {A = ℕ} (Ends (refused 3 (view_line fault))) stop → StopsBy (Judged names see text) stop
-  fault_stops Memory cause = tt
-  fault_stops Words cause = cause
-  fault_stops Out cause = cause
-  fault_stops Net cause = cause
-  fault_stops (Peer names fault) cause = cause
-  fault_stops (Files name) cause = cause
-  fault_stops (Refused line) cause = (refl, record { fault = fault; line_is = same_line line.items (view_line fault) (refused 3 line.items) (refused 3 (view_line fault)) refl refl cause; is_fault = is; wrong = wrong })
-  fault_stops (Covering line) cause = not_covering line.items (view_line fault) (refused 4 line.items) (refused 3 (view_line fault)) refl refl cause
 
 -- ---- the steps
 

@@ -1,27 +1,23 @@
 //! The written view of a job's folder, checked against the job.
-ghost use Rattle.std.specs.Prelude.{◌≡◌, ℕ, Some, None, Ok, length};
+ghost use Rattle.std.specs.Prelude.{◌≡◌, Some, None, Ok, length};
 ghost use Rattle.outer_io.specs.Files.{FilesReading};
 ghost use Rattle.command_words.specs.Commands.{audit};
 ghost use Rattle.share_world.specs.Laws.{IsWhole};
 ghost use Rattle.share_world.specs.Worlds.{view};
 ghost use Rattle.wire_tables.specs.WireTables.{world_given};
-ghost use Rattle.view_check.specs.declared.fault.CheckFault.TheVariants.{Memory};
-ghost use Rattle.refusal_text.specs.Lines.{view_line};
-ghost use Rattle.job_walk.specs.Verdict.{Ends, refused};
 ghost use Rattle.job_walk.specs.JobReads.{ReadsPlan};
-ghost use Rattle.job_walk.specs.Reads.{WalksAs, StopsBy};
+ghost use Rattle.job_walk.specs.Reads.{WalksAs};
 ghost use Rattle.mpc_top.specs.Audits.{Judged};
 ghost use Rattle.mpc_top.specs.Outcomes.{RunsAlone};
 
 use crate::parties::read_parties;
 use job_plan::Inputs;
 use job_run::{inputs_of, tapes_of};
-use job_walk::{Planned, Stop, read_file, read_planned, refusal};
+use job_walk::{Planned, Stop, read_file, read_planned, stop_of};
 use outer_io::{Files, Sink};
 use output_text::write_yes;
-use refusal_text::view_line;
 use std::alloc::Global;
-use view_check::{CheckFault, check};
+use view_check::check;
 
 /// Checks the written view of a folder against its job: how many messages the view has, where each word is the
 /// protocol's.
@@ -36,7 +32,6 @@ pub(crate) fn audit_job<F: Files, O: Sink>(
 {
     let planned = read_planned(alloc, files, dir, None)?;
     let result = audit_planned(alloc, files, out, dir, &planned);
-    // By a call, which is one step of the proof.
     drop(planned);
     result
 }
@@ -78,17 +73,6 @@ fn judged(
 {
     match check(alloc, &planned.plan, inputs, tapes, &planned.names, text) {
         Ok(count) => Ok(count),
-        Err(fault) => Err(view_stop(alloc, fault)),
-    }
-}
-
-// The stop of a fault of a view.
-fn view_stop(alloc: Global, fault: CheckFault) -> Stop
-    ensures memory { fault ≡ Memory → result ≡ Stop.Memory }
-    ensures line { StopsBy {A = ℕ} (Ends (refused 3 (view_line fault))) result }
-{
-    match fault {
-        CheckFault::Memory => Stop::Memory,
-        fault => refusal(view_line(alloc, fault)),
+        Err(fault) => Err(stop_of(alloc, None, &[], &fault)),
     }
 }

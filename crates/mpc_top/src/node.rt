@@ -101,7 +101,6 @@ where
         digest,
     } = job;
     let PartyData { inputs, tapes } = given;
-    // What is done with is let go by calls, each of which is one step of the proof.
     let ready = match NodeReady::make(alloc, &plan, me, &inputs, tapes, &digest, form) {
         Ok(ready) => ready,
         Err(_) => {

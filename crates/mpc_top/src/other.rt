@@ -9,11 +9,10 @@ ghost use Rattle.mpc_top.specs.WholeJobs.{OtherAt};
 ghost use Rattle.job_walk.specs.Reads.{ReadsAs, WalksAs};
 
 use job_plan::{Inputs, Plan};
-use job_walk::{Stop, read_file, refusal};
-use other_file::{OtherFault, read_other};
+use job_walk::{Stop, read_file, stop_of};
+use other_file::read_other;
 use outer_io::Files;
 use party_names::Names;
-use refusal_text::other_line;
 use std::alloc::Global;
 
 /// Reads the inputs that a folder gives beside those of its job.
@@ -36,6 +35,7 @@ pub(crate) fn read_other_inputs<F: Files>(
     other_in(alloc, &bytes, names, plan, inputs)
 }
 
+#[tactic(auto, unfolding(refusal_text::specs::Lines::other_line))]
 fn other_in(
     alloc: Global,
     bytes: &[u8],
@@ -49,9 +49,10 @@ fn other_in(
         (Ends (verdict_of (other_line names.now) (other_in plan.now names.now inputs.now bytes.now))) result }
     ensures fits { IfOk result (AreInputs plan.now) }
 {
-    match read_other(alloc, bytes, plan, names, inputs) {
-        Ok(other) => Ok(other),
-        Err(OtherFault::Memory) => Err(Stop::Memory),
-        Err(fault) => Err(refusal(other_line(alloc, names, &fault))),
-    }
+    read_other(alloc, bytes, plan, names, inputs).map_err(|fault| stop_of(
+        alloc,
+        Some(names),
+        &[],
+        &fault,
+    ))
 }

@@ -7,13 +7,11 @@ ghost use Rattle.job_plan.specs.Plans.{structure};
 ghost use Rattle.job_run.specs.Parties.{AllFit, world_of};
 ghost use Rattle.job_run.specs.Pairs.{IsPair};
 ghost use Rattle.command_words.specs.Commands.{pair};
-ghost use Rattle.tape_map.specs.declared.fault.MapFault.TheVariants as map;
-ghost use Rattle.refusal_text.specs.Lines.{pair_line};
-ghost use Rattle.job_walk.specs.Verdict.{Ends, refused};
-ghost use Rattle.mpc_top.specs.WholeJobs.{PairedJob, hidden_of, paired_job, whole_job};
+ghost use Rattle.job_walk.specs.Verdict.{Ends};
+ghost use Rattle.mpc_top.specs.WholeJobs.{hidden_of, paired_job, whole_job};
 ghost use Rattle.outer_io.specs.Files.{FilesReading};
 ghost use Rattle.job_walk.specs.JobReads.{ReadsPlan};
-ghost use Rattle.job_walk.specs.Reads.{WalksAs, StopsBy};
+ghost use Rattle.job_walk.specs.Reads.{WalksAs};
 ghost use Rattle.job_walk.specs.Seen.{planned_view};
 ghost use Rattle.mpc_top.specs.Seen.{parties_view};
 ghost use Rattle.mpc_top.specs.Outcomes.{RunsAlone};
@@ -23,16 +21,13 @@ use crate::other::read_other_inputs;
 use crate::parties::read_parties;
 use job_plan::Inputs;
 use job_run::{Pair, inputs_of, pair_of};
-use job_walk::{Planned, Stop, read_planned, refusal};
+use job_walk::{Planned, Stop, read_planned, stop_of};
 use outer_io::{Files, Pace, Sink};
 use output_text::write_pair;
 use party_file::PartyData;
-use party_names::Names;
 use party_set::Group;
-use refusal_text::pair_line;
 use std::alloc::Global;
 use std::thread::Threads;
-use tape_map::MapFault;
 
 /// Runs the job of a folder, and again with the other inputs of the folder and the tapes that hide them from a group.
 /// Both runs have all their memory before the first byte is written.
@@ -48,7 +43,6 @@ pub(crate) fn run_pair<F: Files, O: Sink, P: Pace, R: Threads + Sync>(
 {
     let planned = read_planned(means.alloc, files, dir, Some(group))?;
     let result = run_planned(means, files, out, dir, &planned);
-    // By a call, which is one step of the proof.
     drop(planned);
     result
 }
@@ -127,17 +121,6 @@ fn hidden_pair(
 {
     match pair_of(alloc, &planned.plan, &planned.groups, group, parties, other) {
         Ok(pair) => Ok(pair),
-        Err(fault) => Err(hiding_stop(alloc, &planned.names, fault)),
-    }
-}
-
-// The stop of a fault of the change of tapes.
-fn hiding_stop(alloc: Global, names: &Names, fault: MapFault) -> Stop
-    ensures memory { fault ≡ map.Memory → result ≡ Stop.Memory }
-    ensures line { StopsBy {A = PairedJob} (Ends (refused 3 (pair_line names.now fault))) result }
-{
-    match fault {
-        MapFault::Memory => Stop::Memory,
-        fault => refusal(pair_line(alloc, names, fault)),
+        Err(fault) => Err(stop_of(alloc, Some(&planned.names), &[], &fault)),
     }
 }

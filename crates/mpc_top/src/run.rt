@@ -97,7 +97,6 @@ fn run_job<F: Files, O: Sink, P: Pace, R: Threads + Sync>(
 {
     let planned = read_planned(means.alloc, files, dir, view)?;
     let result = run_planned(means, files, out, dir, workers, &planned);
-    // By a call, which is one step of the proof.
     drop(planned);
     result
 }
@@ -137,7 +136,6 @@ fn check_job<F: Files, O: Sink>(
 {
     let planned = read_planned(alloc, files, dir, None)?;
     let written = write_check(out, &planned.names, &planned.groups, &planned.plan);
-    // By a call, which is one step of the proof.
     drop(planned);
     Ok(written?)
 }

@@ -37,7 +37,6 @@ pub(crate) fn run_sample<F: Files, O: Sink, P: Pace, R: Threads + Sync>(
     let names = three_names(means.alloc)?;
     let made = make_sample(means.alloc, count)?;
     let result = run_made(means, out, count, &names, made);
-    // By a call, which is one step of the proof.
     drop(names);
     result
 }
@@ -67,7 +66,6 @@ fn run_made<O: Sink, P: Pace, R: Threads + Sync>(
     let ready = prepare(means.alloc, &plan, &inputs, tapes, WORKERS)?;
     let done = ready.run(means.threads, &plan, means.pace);
     let written = write_sample(out, names, &plan, &done, count);
-    // By a call, which is one step of the proof.
     drop((inputs, plan));
     Ok(written?)
 }

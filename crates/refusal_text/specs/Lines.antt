@@ -6,6 +6,8 @@ use Rattle.list_laws.specs.Lists.{listed}
 use Rattle.fault_table.specs.Tables.{KeyValue, Number, Signed, Text, Name, Party, Keys, Entry, fault, in_session}
 use Rattle.group_formula.specs.declared.fault.FormulaFault.{FormulaFault}
 use Rattle.group_formula.specs.ToldFaults.{told_formula_fault}
+use Rattle.maximal_groups.specs.declared.find.GroupsFault.{GroupsFault}
+use Rattle.maximal_groups.specs.declared.find.GroupsFault.TheVariants.{TooManyGroups, Memory}
 use Rattle.group_text.specs.declared.fault.GroupFault.{GroupFault}
 use Rattle.group_text.specs.ToldFaults.{told_group_fault}
 use Rattle.circuit_model.specs.declared.fault.CircuitFault.{CircuitFault}
@@ -85,9 +87,12 @@ unfoldable pub group_line : GroupFault → List ℕ
 group_line f = refusal_line (codes "group") [] [] (told_group_fault f)
 
 -- more maximal tolerated groups than 64
+abbrev pub told_groups_fault : GroupsFault → Entry
+told_groups_fault (TooManyGroups found) = fault 1 (codes "TooManyGroups") ((codes "found", Number found) ∷ [])
+told_groups_fault Memory = fault 0 (codes "Memory") []
+
 unfoldable pub groups_line : ℕ → List ℕ
-groups_line found =
-    refusal_line (codes "groups") [] [] (fault 1 (codes "TooManyGroups") ((codes "found", Number found) ∷ []))
+groups_line found = refusal_line (codes "groups") [] [] (told_groups_fault (TooManyGroups found))
 
 -- two tolerated groups that together are all parties
 unfoldable pub covering_line : List (List ℕ) → ℕ → ℕ → List ℕ

@@ -1,8 +1,12 @@
-//! Lines of files.
-ghost use Rattle.std.specs.Prelude.{◌≡◌, IfOk};
-ghost use Rattle.refusal_text.specs.Lines.{too_long_line, circuit_line, expressions_line, job_line};
+//! Faults of files.
+ghost use Rattle.std.specs.Prelude.{◌≡◌, IfOk, codes};
+ghost use Rattle.circuit_model.specs.ToldFaults.{told_circuit_fault};
+ghost use Rattle.expr_circuit.specs.ToldFaults.{told_expr_fault};
+ghost use Rattle.job_file.specs.ToldFaults.{fault_part, told_job_fault};
+ghost use Rattle.refusal_text.specs.Lines.{too_long_line};
 
-use crate::line::{file_key, number_key, refusal_line};
+use crate::fault::Fault;
+use crate::line::{file_key, refusal_line};
 use circuit_model::CircuitFault;
 use expr_circuit::ExprFault;
 use fault_table::Entry;
@@ -19,38 +23,44 @@ pub fn too_long_line(alloc: Global, file: &str) -> Result<Vec<u8>, AllocError>
     refusal_line(alloc, "files", None, &[file_key(file)], &entry)
 }
 
-/// The line of a fault of a job's file.
-#[tactic(auto, unfolding(crate::specs::Lines::job_line))]
-pub fn job_line(alloc: Global, fault: &JobFault) -> Result<Vec<u8>, AllocError>
-    ensures { IfOk result (λ line. line.items ≡ job_line fault.now) }
-{
-    refusal_line(alloc, fault.part(), None, &[], &fault.told())
+impl Fault for JobFault {
+    ghost part = { fault_part };
+
+    ghost entry = { told_job_fault };
+
+    fn part(&self) -> &'static str {
+        JobFault::part(self)
+    }
+
+    fn entry(&self) -> Entry<'_> {
+        self.told()
+    }
 }
 
-/// The line of a fault of the circuit file of a session.
-#[tactic(auto, unfolding(crate::specs::Lines::circuit_line))]
-pub fn circuit_line(
-    alloc: Global,
-    file: &str,
-    session: u32,
-    fault: CircuitFault,
-) -> Result<Vec<u8>, AllocError>
-    ensures { IfOk result (λ line. line.items ≡ circuit_line file.now session fault) }
-{
-    let front = [file_key(file), number_key("session", session as u64)];
-    refusal_line(alloc, "circuit", None, &front, &fault.told())
+impl Fault for CircuitFault {
+    ghost part = { λ _. codes "circuit" };
+
+    ghost entry = { told_circuit_fault };
+
+    fn part(&self) -> &'static str {
+        "circuit"
+    }
+
+    fn entry(&self) -> Entry<'_> {
+        self.told()
+    }
 }
 
-/// The line of a fault of the expressions of a session.
-#[tactic(auto, unfolding(crate::specs::Lines::expressions_line))]
-pub fn expressions_line(
-    alloc: Global,
-    file: &str,
-    session: u32,
-    fault: ExprFault,
-) -> Result<Vec<u8>, AllocError>
-    ensures { IfOk result (λ line. line.items ≡ expressions_line file.now session fault) }
-{
-    let front = [file_key(file), number_key("session", session as u64)];
-    refusal_line(alloc, "expr", None, &front, &fault.told())
+impl Fault for ExprFault {
+    ghost part = { λ _. codes "expr" };
+
+    ghost entry = { told_expr_fault };
+
+    fn part(&self) -> &'static str {
+        "expr"
+    }
+
+    fn entry(&self) -> Entry<'_> {
+        self.told()
+    }
 }

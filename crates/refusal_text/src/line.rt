@@ -1,5 +1,5 @@
 //! The line of a refusal.
-ghost use Rattle.std.specs.Prelude.{◌≡◌, ◌++◌, IfOk, OnOk, [], codes, map, slice_index_or};
+ghost use Rattle.std.specs.Prelude.{◌≡◌, ◌++◌, IfOk, IsErr, OnOk, [], codes, map, slice_index_or};
 ghost use Rattle.std.specs.Option.{option_map_or};
 ghost use Rattle.fault_table.specs.Tables.{told_key, told_value, Number, Text};
 ghost use Rattle.refusal_text.specs.Lines.{head, refusal_line, key_head, keys_text, value_text};
@@ -11,7 +11,7 @@ use std::alloc::{AllocError, Global};
 use text_parts::{push_number, push_signed, push_text};
 
 /// The line of a part that refuses, with these keys in front of those of the fault. A party is told by its name, where
-/// names are given.
+/// names are given. Want of memory, which has the number 0, has no line.
 pub(crate) fn refusal_line(
     alloc: Global,
     part: &str,
@@ -19,9 +19,13 @@ pub(crate) fn refusal_line(
     front: &[EntryKey],
     entry: &Entry,
 ) -> Result<Vec<u8>, AllocError>
-    ensures { IfOk result (λ text. text.items
+    ensures memory { entry.now.number ≡ 0 → IsErr result }
+    ensures line { IfOk result (λ text. text.items
         ≡ refusal_line part.now (option_map_or (λ n. n.now) names.entry []) (map told_key front.now) entry.now) }
 {
+    if entry.number() == 0 {
+        return Err(AllocError);
+    }
     let mut text = Vec::new(alloc);
     push_head(&mut text, part, entry)?;
     push_keys(&mut text, names, front)?;
@@ -83,18 +87,18 @@ fn push_party(text: &mut Vec<u8>, names: Option<&Names>, party: u32) -> Result<(
     }
 }
 
-/// The key of a number.
-pub(crate) fn number_key(key: &'static str, value: u64) -> EntryKey<'static>
-    ensures { told_key result ≡ (key.now, Number value) }
+/// The key of the session that has the fault.
+pub fn session_key(session: u32) -> EntryKey<'static>
+    ensures { told_key result ≡ (codes "session", Number session) }
 {
     EntryKey {
-        key,
-        value: KeyValue::Number(value),
+        key: "session",
+        value: KeyValue::Number(session as u64),
     }
 }
 
 /// The key of the file that has the fault.
-pub(crate) fn file_key(file: &str) -> EntryKey<'_>
+pub fn file_key(file: &str) -> EntryKey<'_>
     ensures { told_key result ≡ (codes "file", Text file.now) }
 {
     EntryKey {

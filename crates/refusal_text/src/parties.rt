@@ -1,25 +1,37 @@
-//! Lines of what parties give.
-ghost use Rattle.std.specs.Prelude.{◌≡◌, IfOk};
-ghost use Rattle.refusal_text.specs.Lines.{party_line, other_line};
+//! Faults of what parties give.
+ghost use Rattle.std.specs.Prelude.{codes};
+ghost use Rattle.other_file.specs.ToldFaults.{told_other_fault};
+ghost use Rattle.party_file.specs.ToldFaults.{told_party_fault};
 
-use crate::line::{file_key, refusal_line};
+use crate::fault::Fault;
+use fault_table::Entry;
 use other_file::OtherFault;
 use party_file::PartyFault;
-use party_names::Names;
-use std::alloc::{AllocError, Global};
 
-/// The line of a fault of a party's file.
-#[tactic(auto, unfolding(crate::specs::Lines::party_line))]
-pub fn party_line(alloc: Global, file: &str, fault: &PartyFault) -> Result<Vec<u8>, AllocError>
-    ensures { IfOk result (λ line. line.items ≡ party_line file.now fault.now) }
-{
-    refusal_line(alloc, "party", None, &[file_key(file)], &fault.told())
+impl Fault for PartyFault {
+    ghost part = { λ _. codes "party" };
+
+    ghost entry = { told_party_fault };
+
+    fn part(&self) -> &'static str {
+        "party"
+    }
+
+    fn entry(&self) -> Entry<'_> {
+        self.told()
+    }
 }
 
-/// The line of a fault of the file of other inputs.
-#[tactic(auto, unfolding(crate::specs::Lines::other_line))]
-pub fn other_line(alloc: Global, names: &Names, fault: &OtherFault) -> Result<Vec<u8>, AllocError>
-    ensures { IfOk result (λ line. line.items ≡ other_line names.now fault.now) }
-{
-    refusal_line(alloc, "other", Some(names), &[], &fault.told())
+impl Fault for OtherFault {
+    ghost part = { λ _. codes "other" };
+
+    ghost entry = { told_other_fault };
+
+    fn part(&self) -> &'static str {
+        "other"
+    }
+
+    fn entry(&self) -> Entry<'_> {
+        self.told()
+    }
 }

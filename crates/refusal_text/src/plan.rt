@@ -1,25 +1,35 @@
-//! Lines of plans and of sessions.
-ghost use Rattle.std.specs.Prelude.{◌≡◌, IfOk};
-ghost use Rattle.refusal_text.specs.Lines.{plan_line, session_line};
+//! Faults of plans and of sessions.
+ghost use Rattle.std.specs.Prelude.{codes};
+ghost use Rattle.plan_faults.specs.ToldFaults.{told_plan_fault, told_part_fault};
 
-use crate::line::{number_key, refusal_line};
-use party_names::Names;
+use crate::fault::Fault;
+use fault_table::Entry;
 use plan_faults::{PartFault, PlanFault};
-use std::alloc::{AllocError, Global};
 
-/// The line of a plan past the limits.
-#[tactic(auto, unfolding(crate::specs::Lines::plan_line))]
-pub fn plan_line(alloc: Global, names: &Names, fault: PlanFault) -> Result<Vec<u8>, AllocError>
-    ensures { IfOk result (λ line. line.items ≡ plan_line names.now fault) }
-{
-    refusal_line(alloc, "plan", Some(names), &[], &fault.told())
+impl Fault for PlanFault {
+    ghost part = { λ _. codes "plan" };
+
+    ghost entry = { told_plan_fault };
+
+    fn part(&self) -> &'static str {
+        "plan"
+    }
+
+    fn entry(&self) -> Entry<'_> {
+        self.told()
+    }
 }
 
-/// The line of what is wrong with a session: its counts of owners or readers, or a value that it carries.
-#[tactic(auto, unfolding(crate::specs::Lines::session_line))]
-pub fn session_line(alloc: Global, session: u32, fault: PartFault) -> Result<Vec<u8>, AllocError>
-    ensures { IfOk result (λ line. line.items ≡ session_line session fault) }
-{
-    let front = [number_key("session", session as u64)];
-    refusal_line(alloc, "session", None, &front, &fault.told())
+impl Fault for PartFault {
+    ghost part = { λ _. codes "session" };
+
+    ghost entry = { told_part_fault };
+
+    fn part(&self) -> &'static str {
+        "session"
+    }
+
+    fn entry(&self) -> Entry<'_> {
+        self.told()
+    }
 }

@@ -1,22 +1,65 @@
-//! Lines of formulas, of groups and of parties.
-ghost use Rattle.std.specs.Prelude.{◌≡◌, IfOk, length};
-ghost use Rattle.refusal_text.specs.Lines.{formula_line, name_line, group_line, groups_line, covering_line};
+//! Faults of formulas, of groups and of parties.
+ghost use Rattle.std.specs.Prelude.{◌≡◌, IfOk, codes, length};
+ghost use Rattle.group_formula.specs.ToldFaults.{told_formula_fault};
+ghost use Rattle.group_text.specs.ToldFaults.{told_group_fault};
+ghost use Rattle.refusal_text.specs.Lines.{covering_line, name_line, told_groups_fault};
 
+use crate::fault::Fault;
 use crate::line::refusal_line;
 use fault_table::Entry;
 use group_formula::FormulaFault;
 use group_text::GroupFault;
+use maximal_groups::GroupsFault;
 use party_names::Names;
 use party_set::Group;
 use std::alloc::{AllocError, Global};
 use text_parts::push_group;
 
-/// The line of a text that is no formula.
-#[tactic(auto, unfolding(crate::specs::Lines::formula_line))]
-pub fn formula_line(alloc: Global, fault: FormulaFault) -> Result<Vec<u8>, AllocError>
-    ensures { IfOk result (λ line. line.items ≡ formula_line fault) }
-{
-    refusal_line(alloc, "formula", None, &[], &fault.told())
+impl Fault for FormulaFault {
+    ghost part = { λ _. codes "formula" };
+
+    ghost entry = { told_formula_fault };
+
+    fn part(&self) -> &'static str {
+        "formula"
+    }
+
+    fn entry(&self) -> Entry<'_> {
+        self.told()
+    }
+}
+
+impl Fault for GroupFault {
+    ghost part = { λ _. codes "group" };
+
+    ghost entry = { told_group_fault };
+
+    fn part(&self) -> &'static str {
+        "group"
+    }
+
+    fn entry(&self) -> Entry<'_> {
+        self.told()
+    }
+}
+
+impl Fault for GroupsFault {
+    ghost part = { λ _. codes "groups" };
+
+    ghost entry = { told_groups_fault };
+
+    fn part(&self) -> &'static str {
+        "groups"
+    }
+
+    fn entry(&self) -> Entry<'_> {
+        match self {
+            GroupsFault::TooManyGroups { found } => {
+                Entry::new(1, "TooManyGroups").with_number("found", *found)
+            }
+            GroupsFault::Memory => Entry::new(0, "Memory"),
+        }
+    }
 }
 
 /// The line of a name that is no party's.
@@ -25,23 +68,6 @@ pub fn name_line(alloc: Global) -> Result<Vec<u8>, AllocError>
     ensures { IfOk result (λ line. line.items ≡ name_line) }
 {
     refusal_line(alloc, "name", None, &[], &Entry::new(1, "UnknownParty"))
-}
-
-/// The line of a text that names no group.
-#[tactic(auto, unfolding(crate::specs::Lines::group_line))]
-pub fn group_line(alloc: Global, fault: GroupFault) -> Result<Vec<u8>, AllocError>
-    ensures { IfOk result (λ line. line.items ≡ group_line fault) }
-{
-    refusal_line(alloc, "group", None, &[], &fault.told())
-}
-
-/// The line of a formula with more maximal tolerated groups than 64.
-#[tactic(auto, unfolding(crate::specs::Lines::groups_line))]
-pub fn groups_line(alloc: Global, found: u64) -> Result<Vec<u8>, AllocError>
-    ensures { IfOk result (λ line. line.items ≡ groups_line found) }
-{
-    let entry = Entry::new(1, "TooManyGroups").with_number("found", found);
-    refusal_line(alloc, "groups", None, &[], &entry)
 }
 
 /// The line of two tolerated groups that together are all parties.

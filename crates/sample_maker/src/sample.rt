@@ -31,7 +31,6 @@ pub fn make_sample(alloc: Global, count: u32) -> Result<Sample, AllocError>
     ensures pieces_fit { IfOk result (λ sample. ArePieces sample.plan sample.tapes.items) }
 {
     let plan = sample_plan(alloc, count)?;
-    // What is done with is let go by calls, each of which is one step of the proof.
     let inputs = match sample_inputs(alloc, &plan, count) {
         Ok(inputs) => inputs,
         Err(fault) => {

@@ -183,8 +183,8 @@ impl Change {
         ensures below { result < 2 ^ plan.now.bits }
     {
         let part = plan.part(self.session);
-        let a = self.rows.row(part.mask_wire(t, Side::First));
-        let b = self.rows.row(part.mask_wire(t, Side::Second));
+        let masks = part.product_of_masks(t);
+        let (a, b) = (self.rows.row(masks.first), self.rows.row(masks.second));
         let moved_a = &self.first_masks[t as usize];
         let moved_b = &self.second_masks[t as usize];
         product_growth(plan, p, a, b, moved_a, moved_b)

@@ -3,13 +3,13 @@ use Rattle.party_set.specs.Parties.{Members}
 use Rattle.party_set.proofs.Masks.{power_is}
 use Rattle.maximal_groups.specs.Families.{is_maximal}
 use Rattle.maximal_groups.proofs.NumberFilters.{filter_no}
-use Rattle.maximal_groups.proofs.FoundGroups.{some_is, masks, more_yes, all_more, one_too_many, all_found, antichain_found}
+use Rattle.maximal_groups.proofs.FoundGroups.{masks, more_yes, all_more, one_too_many, all_found, antichain_found}
 use Rattle.maximal_groups.proofs.find.find_groups.Goals as goal
 use Rattle.maximal_groups.proofs.find.find_groups.Goals.{then-is_maximal+else-len-eq-MOST_GROUPS+in_ok-push, else-is_maximal}
 
 pub returns-then-len-eq-MOST_GROUPS : goal.returns-then-len-eq-MOST_GROUPS
 returns-then-len-eq-MOST_GROUPS g c =
-    let group : c.unwrap-group.result ≡ record { parties = c.parties-parties.result; mask = c.loop-mask.mask } = some_is _ c.of_mask.result c.unwrap-group.result _ c.of_mask.ensures c.unwrap-group.ensures in
+    let group : c.group_of_mask-group.result ≡ record { parties = c.parties-parties.result; mask = c.loop-mask.mask } = c.group_of_mask-group.ensures in
     let p : ℕ → Bool = is_maximal (g.F.Family.count c.args.family.now) (g.F.Family.is_tolerated c.args.family.now) in (
       refl,
       one_too_many p c.loop-mask.mask (2 ^ g.F.Family.count c.args.family.now) c.loop-mask.groups.items c.loop-mask.invariant.found
@@ -20,16 +20,16 @@ returns-then-len-eq-MOST_GROUPS g c =
 
 pub loop-mask-preserved : goal.loop-mask-preserved
 loop-mask-preserved g c =
-    let group : c.unwrap-group.result ≡ record { parties = c.parties-parties.result; mask = c.loop-mask.mask } = some_is _ c.of_mask.result c.unwrap-group.result _ c.of_mask.ensures c.unwrap-group.ensures in
+    let group : c.group_of_mask-group.result ≡ record { parties = c.parties-parties.result; mask = c.loop-mask.mask } = c.group_of_mask-group.ensures in
     let p : ℕ → Bool = is_maximal (g.F.Family.count c.args.family.now) (g.F.Family.is_tolerated c.args.family.now) in
     elim c.if-is_maximal.branch [
       | then-is_maximal+else-len-eq-MOST_GROUPS+in_ok-push w ↦
-          (let e : c.if-is_maximal.groups.items ≡ c.loop-mask.groups.items ++ (c.unwrap-group.result ∷ []) = ap (λ v. v.items) w.groups-is ∙ w.in_ok-push.ensures.items in
+          (let e : c.if-is_maximal.groups.items ≡ c.loop-mask.groups.items ++ (c.group_of_mask-group.result ∷ []) = ap (λ v. v.items) w.groups-is ∙ w.in_ok-push.ensures.items in
           record {
-            found = more_yes p c.loop-mask.mask c.loop-mask.groups.items c.if-is_maximal.groups.items c.unwrap-group.result c.loop-mask.invariant.found
+            found = more_yes p c.loop-mask.mask c.loop-mask.groups.items c.if-is_maximal.groups.items c.group_of_mask-group.result c.loop-mask.invariant.found
                 (ap (λ (m : Members). p m.mask) (sym group) ∙ sym c.is_maximal.ensures ∙ w.if-is_maximal.true) e (ap (λ (m : Members). m.mask) group);
-            parties = all_more c.parties-parties.result c.loop-mask.groups.items c.if-is_maximal.groups.items c.unwrap-group.result c.loop-mask.invariant.parties e (ap (λ (m : Members). m.parties) group);
-            fits = omega (arith, ap length e, length-append c.loop-mask.groups.items (c.unwrap-group.result ∷ []), c.loop-mask.invariant.fits, w.if-len-eq-MOST_GROUPS.false);
+            parties = all_more c.parties-parties.result c.loop-mask.groups.items c.if-is_maximal.groups.items c.group_of_mask-group.result c.loop-mask.invariant.parties e (ap (λ (m : Members). m.parties) group);
+            fits = omega (arith, ap length e, length-append c.loop-mask.groups.items (c.group_of_mask-group.result ∷ []), c.loop-mask.invariant.fits, w.if-len-eq-MOST_GROUPS.false);
           })
       | else-is_maximal w ↦
           (let e : c.if-is_maximal.groups.items ≡ c.loop-mask.groups.items = ap (λ v. v.items) w.groups-is in

@@ -4,13 +4,14 @@ use Rattle.party_file.specs.Forms.{form_of}
 use Rattle.job_run.specs.Parties.{world_of}
 use Rattle.tape_map.specs.MapFaults.{map_fault}
 use Rattle.tape_map.specs.declared.fault.MapFault.{MapFault}
+use Rattle.tape_map.specs.ToldFaults.{told_map_fault}
 use Rattle.tape_map.proofs.NoFaults.{no_fault}
 use Rattle.refusal_text.specs.Lines.{pair_line}
-use Rattle.job_walk.specs.Verdict.{Verdict, Ends, unless}
-use Rattle.mpc_top.specs.WholeJobs.{PairedJob, WholeJob, mask_of, hidden_of, paired_job, whole_job}
+use Rattle.job_walk.specs.Verdict.{Ends, unless}
+use Rattle.mpc_top.specs.WholeJobs.{WholeJob, mask_of, hidden_of, paired_job, whole_job}
 use Rattle.job_walk.specs.Seen.{planned_view}
 use Rattle.mpc_top.specs.Seen.{parties_view}
-use Rattle.job_walk.specs.Reads.{StopsBy}
+use Rattle.job_walk.proofs.Steps.{fault_walks}
 use Rattle.mpc_top.proofs.pair.hidden_pair.Goals as goal
 
 -- what the fault of a job's change of tapes decides
@@ -28,16 +29,18 @@ returns-in-Ok-clause-walks c =
     record { ok = sym (decides job c.args.other.now c.args.group.mask None (ap mask_of c.requires.asked) none); stop = tt }
 
 pub returns-in-Err : goal.returns-in-Err
+unfolding pair_line
 returns-in-Err c =
     let job : WholeJob = whole_job (planned_view c.args.planned.now) (parties_view c.args.parties) in
     let same = ap mask_of c.requires.asked in
     record {
       walks = record {
         ok = tt;
-        stop = elim c.in-Err.ensures.fault [
-          | inl memory ↦ subst (StopsBy (Ends (hidden_of job c.args.other.now))) (sym (c.hiding_stop.ensures.memory memory)) tt
-          | inr is ↦ subst (λ (v : Verdict PairedJob). StopsBy (Ends v) c.hiding_stop.result) (sym (decides job c.args.other.now c.args.group.mask (Some c.in-Err.fault) same is)) c.hiding_stop.ensures.line
-        ];
+        stop = fault_walks (Ends (hidden_of job c.args.other.now)) (told_map_fault c.in-Err.fault).number (pair_line job.names c.in-Err.fault) c.stop_of.result c.stop_of.ensures
+            (λ real. elim c.in-Err.ensures.fault [
+              | inl memory ↦ absurd (real (ap (λ f. (told_map_fault f).number) memory))
+              | inr is ↦ sym (decides job c.args.other.now c.args.group.mask (Some c.in-Err.fault) same is)
+            ]);
       };
       pair = tt;
     }

@@ -1,128 +1,74 @@
-use Rattle.std.proofs.Common.{◌≡◌, true, refl, sym, ap, ◌∙◌}
+use Rattle.std.proofs.Common.{refl, sym, ap, ◌∙◌}
 use Rattle.std.proofs.lemmas.Result.{on_ok_weaker}
-use Rattle.circuit_model.specs.Circuits.{is_product}
 use Rattle.session_slots.specs.Sessions.{Session, product_in}
 use Rattle.session_slots.specs.Sessions.Slot.{Mask_product}
-use Rattle.share_world.specs.Worlds.{World}
-use Rattle.wire_tables.specs.WireTables.{world_of}
 use Rattle.wire_tables.proofs.NextPlaces.{has_words}
 use Rattle.wire_tables.proofs.MadeRows.{at_gate, first_named, gate_within, join_set, linear_set, mask_rows, part_dealt, product_set, second_named, wire_rows}
 use Rattle.wire_tables.proofs.TableRows.{row_small}
 use Rattle.wire_tables.proofs.summands.gate_row.Goals as goal
 
 pub gate-gate-requires : goal.gate-gate-requires
-gate-gate-requires c =
-    let w : World = world_of c.args.world.now in
-    gate_within w c.args.before.now c.args.t _ (at_gate w c.args.before.now c.args.t _ c.part-part.result.now c.requires.whole c.requires.before c.requires.gate c.part-part.ensures refl) c.part-part.result.now c.part-part.ensures
+gate-gate-requires c = gate_within _ _ _ _ (at_gate _ _ _ _ _ c.requires.whole c.requires.before c.requires.gate c.part-part.ensures refl) _ c.part-part.ensures
 
 pub row_of-x-requires : goal.row_of-x-requires
-row_of-x-requires c =
-    let w : World = world_of c.args.world.now in
-    first_named w c.args.before.now c.args.t c.gate-gate.result (at_gate w c.args.before.now c.args.t c.gate-gate.result c.part-part.result.now c.requires.whole c.requires.before c.requires.gate c.part-part.ensures c.gate-gate.ensures)
+row_of-x-requires c = first_named _ _ _ _ (at_gate _ _ _ _ _ c.requires.whole c.requires.before c.requires.gate c.part-part.ensures c.gate-gate.ensures)
 
 pub row_of-y-requires : goal.row_of-y-requires
-row_of-y-requires c =
-    let w : World = world_of c.args.world.now in
-    second_named w c.args.before.now c.args.t c.gate-gate.result (at_gate w c.args.before.now c.args.t c.gate-gate.result c.part-part.result.now c.requires.whole c.requires.before c.requires.gate c.part-part.ensures c.gate-gate.ensures)
+row_of-y-requires c = second_named _ _ _ _ (at_gate _ _ _ _ _ c.requires.whole c.requires.before c.requires.gate c.part-part.ensures c.gate-gate.ensures)
 
 pub linear_into-requires-clause-long : goal.linear_into-requires-clause-long
 linear_into-requires-clause-long c =
-    let w : World = world_of c.args.world.now in
-    let at = at_gate w c.args.before.now c.args.t c.gate-gate.result c.part-part.result.now c.requires.whole c.requires.before c.requires.gate c.part-part.ensures c.gate-gate.ensures in
-    let rows = wire_rows w c.args.before.now c.args.t c.gate-gate.result at _ _ c.row_of-x.ensures c.row_of-y.ensures in
-    rows.0.long ∙ sym rows.1.long
+    let rows = wire_rows _ _ _ _ (at_gate _ _ _ _ _ c.requires.whole c.requires.before c.requires.gate c.part-part.ensures c.gate-gate.ensures) _ _ c.row_of-x.ensures c.row_of-y.ensures in rows.0.long ∙ sym rows.1.long
 
 pub linear_into-requires-clause-words : goal.linear_into-requires-clause-words
 linear_into-requires-clause-words c =
-    let w : World = world_of c.args.world.now in
-    let at = at_gate w c.args.before.now c.args.t c.gate-gate.result c.part-part.result.now c.requires.whole c.requires.before c.requires.gate c.part-part.ensures c.gate-gate.ensures in
-    row_small w.plan c.ring.result _ c.ring.ensures.is (wire_rows w c.args.before.now c.args.t c.gate-gate.result at _ _ c.row_of-x.ensures c.row_of-y.ensures).0
+    row_small _ _ _ c.ring.ensures.is (wire_rows _ _ _ _ (at_gate _ _ _ _ _ c.requires.whole c.requires.before c.requires.gate c.part-part.ensures c.gate-gate.ensures) _ _ c.row_of-x.ensures c.row_of-y.ensures).0
 
 pub linear_into-requires-clause-more_words : goal.linear_into-requires-clause-more_words
 linear_into-requires-clause-more_words c =
-    let w : World = world_of c.args.world.now in
-    let at = at_gate w c.args.before.now c.args.t c.gate-gate.result c.part-part.result.now c.requires.whole c.requires.before c.requires.gate c.part-part.ensures c.gate-gate.ensures in
-    row_small w.plan c.ring.result _ c.ring.ensures.is (wire_rows w c.args.before.now c.args.t c.gate-gate.result at _ _ c.row_of-x.ensures c.row_of-y.ensures).1
+    row_small _ _ _ c.ring.ensures.is (wire_rows _ _ _ _ (at_gate _ _ _ _ _ c.requires.whole c.requires.before c.requires.gate c.part-part.ensures c.gate-gate.ensures) _ _ c.row_of-x.ensures c.row_of-y.ensures).1
 
 pub returns-then-not-is_product : goal.returns-then-not-is_product
 returns-then-not-is_product c =
-    let w : World = world_of c.args.world.now in
-    let at = at_gate w c.args.before.now c.args.t c.gate-gate.result c.part-part.result.now c.requires.whole c.requires.before c.requires.gate c.part-part.ensures c.gate-gate.ensures in
-    on_ok_weaker c.linear_into.result (linear_set w c.args.before.now c.args.t c.gate-gate.result at _ _ c.row_of-x.ensures c.row_of-y.ensures c.ring.result c.linear_into.new.row.items (sym c.is_product.ensures ∙ c.if-not-is_product.true) c.ring.ensures.is) c.linear_into.ensures
+    on_ok_weaker c.linear_into.result (linear_set _ _ _ _ (at_gate _ _ _ _ _ c.requires.whole c.requires.before c.requires.gate c.part-part.ensures c.gate-gate.ensures) _ _ c.row_of-x.ensures c.row_of-y.ensures _ _ (sym c.is_product.ensures ∙ c.if-not-is_product.true) c.ring.ensures.is) c.linear_into.ensures
 
 pub product_into-requires-clause-first : goal.product_into-requires-clause-first
 product_into-requires-clause-first c =
-    let w : World = world_of c.args.world.now in
-    let at = at_gate w c.args.before.now c.args.t c.gate-gate.result c.part-part.result.now c.requires.whole c.requires.before c.requires.gate c.part-part.ensures c.gate-gate.ensures in
-    (wire_rows w c.args.before.now c.args.t c.gate-gate.result at _ _ c.row_of-x.ensures c.row_of-y.ensures).0.long
+    (wire_rows _ _ _ _ (at_gate _ _ _ _ _ c.requires.whole c.requires.before c.requires.gate c.part-part.ensures c.gate-gate.ensures) _ _ c.row_of-x.ensures c.row_of-y.ensures).0.long
 
 pub product_into-requires-clause-second : goal.product_into-requires-clause-second
 product_into-requires-clause-second c =
-    let w : World = world_of c.args.world.now in
-    let at = at_gate w c.args.before.now c.args.t c.gate-gate.result c.part-part.result.now c.requires.whole c.requires.before c.requires.gate c.part-part.ensures c.gate-gate.ensures in
-    (wire_rows w c.args.before.now c.args.t c.gate-gate.result at _ _ c.row_of-x.ensures c.row_of-y.ensures).1.long
+    (wire_rows _ _ _ _ (at_gate _ _ _ _ _ c.requires.whole c.requires.before c.requires.gate c.part-part.ensures c.gate-gate.ensures) _ _ c.row_of-x.ensures c.row_of-y.ensures).1.long
 
 pub product_into-requires-clause-tapes : goal.product_into-requires-clause-tapes
 product_into-requires-clause-tapes c p lp pair =
-    let w : World = world_of c.args.world.now in
-    let at = at_gate w c.args.before.now c.args.t c.gate-gate.result c.part-part.result.now c.requires.whole c.requires.before c.requires.gate c.part-part.ensures c.gate-gate.ensures in
-    let product : is_product c.gate-gate.result.operation ≡ true = sym c.is_product.ensures ∙ c.if-not-is_product.false in
-    let direct = sym (c.is_prepared.ensures ∙ ap (λ (y : Session). y.prepared) c.part-part.ensures) ∙ c.if-not-is_prepared.true in
-    has_words w c.requires.whole c.args.before.now.session c.args.before.now.slot c.args.before.now.places.now c.requires.before.in_session c.requires.before.in_slot c.requires.before.places p lp
-    (part_dealt w c.args.before.now c.args.t c.gate-gate.result at _ _ c.row_of-x.ensures c.row_of-y.ensures product direct p pair)
+    has_words _ c.requires.whole _ _ _ c.requires.before.in_session c.requires.before.in_slot c.requires.before.places p lp
+    (part_dealt _ _ _ _ (at_gate _ _ _ _ _ c.requires.whole c.requires.before c.requires.gate c.part-part.ensures c.gate-gate.ensures) _ _ c.row_of-x.ensures c.row_of-y.ensures (sym c.is_product.ensures ∙ c.if-not-is_product.false) (sym (c.is_prepared.ensures ∙ ap (λ (y : Session). y.prepared) c.part-part.ensures) ∙ c.if-not-is_prepared.true) p pair)
 
 pub returns-then-not-is_prepared : goal.returns-then-not-is_prepared
 returns-then-not-is_prepared c =
-    let w : World = world_of c.args.world.now in
-    let at = at_gate w c.args.before.now c.args.t c.gate-gate.result c.part-part.result.now c.requires.whole c.requires.before c.requires.gate c.part-part.ensures c.gate-gate.ensures in
-    let product : is_product c.gate-gate.result.operation ≡ true = sym c.is_product.ensures ∙ c.if-not-is_product.false in
-    let direct = sym (c.is_prepared.ensures ∙ ap (λ (y : Session). y.prepared) c.part-part.ensures) ∙ c.if-not-is_prepared.true in
-    on_ok_weaker c.product_into.result (product_set w c.args.before.now c.args.t c.gate-gate.result at _ _ c.row_of-x.ensures c.row_of-y.ensures product direct c.product_into.new.sums.items) c.product_into.ensures
+    on_ok_weaker c.product_into.result (product_set _ _ _ _ (at_gate _ _ _ _ _ c.requires.whole c.requires.before c.requires.gate c.part-part.ensures c.gate-gate.ensures) _ _ c.row_of-x.ensures c.row_of-y.ensures (sym c.is_product.ensures ∙ c.if-not-is_product.false) (sym (c.is_prepared.ensures ∙ ap (λ (y : Session). y.prepared) c.part-part.ensures) ∙ c.if-not-is_prepared.true) _) c.product_into.ensures
 
 pub joined_into-requires-clause-first_wire : goal.joined_into-requires-clause-first_wire
 joined_into-requires-clause-first_wire c =
-    let w : World = world_of c.args.world.now in
-    let at = at_gate w c.args.before.now c.args.t c.gate-gate.result c.part-part.result.now c.requires.whole c.requires.before c.requires.gate c.part-part.ensures c.gate-gate.ensures in
-    (wire_rows w c.args.before.now c.args.t c.gate-gate.result at _ _ c.row_of-x.ensures c.row_of-y.ensures).0
+    (wire_rows _ _ _ _ (at_gate _ _ _ _ _ c.requires.whole c.requires.before c.requires.gate c.part-part.ensures c.gate-gate.ensures) _ _ c.row_of-x.ensures c.row_of-y.ensures).0
 
 pub joined_into-requires-clause-second_wire : goal.joined_into-requires-clause-second_wire
 joined_into-requires-clause-second_wire c =
-    let w : World = world_of c.args.world.now in
-    let at = at_gate w c.args.before.now c.args.t c.gate-gate.result c.part-part.result.now c.requires.whole c.requires.before c.requires.gate c.part-part.ensures c.gate-gate.ensures in
-    (wire_rows w c.args.before.now c.args.t c.gate-gate.result at _ _ c.row_of-x.ensures c.row_of-y.ensures).1
+    (wire_rows _ _ _ _ (at_gate _ _ _ _ _ c.requires.whole c.requires.before c.requires.gate c.part-part.ensures c.gate-gate.ensures) _ _ c.row_of-x.ensures c.row_of-y.ensures).1
 
 pub joined_into-requires-clause-first_mask : goal.joined_into-requires-clause-first_mask
 joined_into-requires-clause-first_mask c =
-    let w : World = world_of c.args.world.now in
-    let at = at_gate w c.args.before.now c.args.t c.gate-gate.result c.part-part.result.now c.requires.whole c.requires.before c.requires.gate c.part-part.ensures c.gate-gate.ensures in
-    let product : is_product c.gate-gate.result.operation ≡ true = sym c.is_product.ensures ∙ c.if-not-is_product.false in
-    let prepared = sym (c.is_prepared.ensures ∙ ap (λ (y : Session). y.prepared) c.part-part.ensures) ∙ c.if-not-is_prepared.false in
-    let masks = c.product_of_masks-masks.ensures ∙ ap (λ (y : Session). product_in y (Mask_product c.args.t)) c.part-part.ensures in
-    (mask_rows w c.args.before.now c.args.t c.gate-gate.result at _ _ c.row_of-x.ensures c.row_of-y.ensures product prepared _ masks _ _ _ c.row_of-a.ensures c.row_of-b.ensures c.row_of.ensures).0
+    (mask_rows _ _ _ _ (at_gate _ _ _ _ _ c.requires.whole c.requires.before c.requires.gate c.part-part.ensures c.gate-gate.ensures) _ _ c.row_of-x.ensures c.row_of-y.ensures (sym c.is_product.ensures ∙ c.if-not-is_product.false) (sym (c.is_prepared.ensures ∙ ap (λ (y : Session). y.prepared) c.part-part.ensures) ∙ c.if-not-is_prepared.false) _ (c.product_of_masks-masks.ensures ∙ ap (λ (y : Session). product_in y (Mask_product c.args.t)) c.part-part.ensures) _ _ _ c.row_of-a.ensures c.row_of-b.ensures c.row_of.ensures).0
 
 pub joined_into-requires-clause-second_mask : goal.joined_into-requires-clause-second_mask
 joined_into-requires-clause-second_mask c =
-    let w : World = world_of c.args.world.now in
-    let at = at_gate w c.args.before.now c.args.t c.gate-gate.result c.part-part.result.now c.requires.whole c.requires.before c.requires.gate c.part-part.ensures c.gate-gate.ensures in
-    let product : is_product c.gate-gate.result.operation ≡ true = sym c.is_product.ensures ∙ c.if-not-is_product.false in
-    let prepared = sym (c.is_prepared.ensures ∙ ap (λ (y : Session). y.prepared) c.part-part.ensures) ∙ c.if-not-is_prepared.false in
-    let masks = c.product_of_masks-masks.ensures ∙ ap (λ (y : Session). product_in y (Mask_product c.args.t)) c.part-part.ensures in
-    (mask_rows w c.args.before.now c.args.t c.gate-gate.result at _ _ c.row_of-x.ensures c.row_of-y.ensures product prepared _ masks _ _ _ c.row_of-a.ensures c.row_of-b.ensures c.row_of.ensures).1
+    (mask_rows _ _ _ _ (at_gate _ _ _ _ _ c.requires.whole c.requires.before c.requires.gate c.part-part.ensures c.gate-gate.ensures) _ _ c.row_of-x.ensures c.row_of-y.ensures (sym c.is_product.ensures ∙ c.if-not-is_product.false) (sym (c.is_prepared.ensures ∙ ap (λ (y : Session). y.prepared) c.part-part.ensures) ∙ c.if-not-is_prepared.false) _ (c.product_of_masks-masks.ensures ∙ ap (λ (y : Session). product_in y (Mask_product c.args.t)) c.part-part.ensures) _ _ _ c.row_of-a.ensures c.row_of-b.ensures c.row_of.ensures).1
 
 pub joined_into-requires-clause-mask_product : goal.joined_into-requires-clause-mask_product
 joined_into-requires-clause-mask_product c =
-    let w : World = world_of c.args.world.now in
-    let at = at_gate w c.args.before.now c.args.t c.gate-gate.result c.part-part.result.now c.requires.whole c.requires.before c.requires.gate c.part-part.ensures c.gate-gate.ensures in
-    let product : is_product c.gate-gate.result.operation ≡ true = sym c.is_product.ensures ∙ c.if-not-is_product.false in
-    let prepared = sym (c.is_prepared.ensures ∙ ap (λ (y : Session). y.prepared) c.part-part.ensures) ∙ c.if-not-is_prepared.false in
-    let masks = c.product_of_masks-masks.ensures ∙ ap (λ (y : Session). product_in y (Mask_product c.args.t)) c.part-part.ensures in
-    (mask_rows w c.args.before.now c.args.t c.gate-gate.result at _ _ c.row_of-x.ensures c.row_of-y.ensures product prepared _ masks _ _ _ c.row_of-a.ensures c.row_of-b.ensures c.row_of.ensures).2
+    (mask_rows _ _ _ _ (at_gate _ _ _ _ _ c.requires.whole c.requires.before c.requires.gate c.part-part.ensures c.gate-gate.ensures) _ _ c.row_of-x.ensures c.row_of-y.ensures (sym c.is_product.ensures ∙ c.if-not-is_product.false) (sym (c.is_prepared.ensures ∙ ap (λ (y : Session). y.prepared) c.part-part.ensures) ∙ c.if-not-is_prepared.false) _ (c.product_of_masks-masks.ensures ∙ ap (λ (y : Session). product_in y (Mask_product c.args.t)) c.part-part.ensures) _ _ _ c.row_of-a.ensures c.row_of-b.ensures c.row_of.ensures).2
 
 pub returns : goal.returns
 returns c =
-    let w : World = world_of c.args.world.now in
-    let at = at_gate w c.args.before.now c.args.t c.gate-gate.result c.part-part.result.now c.requires.whole c.requires.before c.requires.gate c.part-part.ensures c.gate-gate.ensures in
-    let product : is_product c.gate-gate.result.operation ≡ true = sym c.is_product.ensures ∙ c.if-not-is_product.false in
-    let prepared = sym (c.is_prepared.ensures ∙ ap (λ (y : Session). y.prepared) c.part-part.ensures) ∙ c.if-not-is_prepared.false in
-    let masks = c.product_of_masks-masks.ensures ∙ ap (λ (y : Session). product_in y (Mask_product c.args.t)) c.part-part.ensures in
-    on_ok_weaker c.joined_into.result (join_set w c.args.before.now c.args.t c.gate-gate.result at _ _ c.row_of-x.ensures c.row_of-y.ensures product prepared _ masks _ _ _ c.row_of-a.ensures c.row_of-b.ensures c.row_of.ensures c.joined_into.new.row.items) c.joined_into.ensures
+    on_ok_weaker c.joined_into.result (join_set _ _ _ _ (at_gate _ _ _ _ _ c.requires.whole c.requires.before c.requires.gate c.part-part.ensures c.gate-gate.ensures) _ _ c.row_of-x.ensures c.row_of-y.ensures (sym c.is_product.ensures ∙ c.if-not-is_product.false) (sym (c.is_prepared.ensures ∙ ap (λ (y : Session). y.prepared) c.part-part.ensures) ∙ c.if-not-is_prepared.false) _ (c.product_of_masks-masks.ensures ∙ ap (λ (y : Session). product_in y (Mask_product c.args.t)) c.part-part.ensures) _ _ _ c.row_of-a.ensures c.row_of-b.ensures c.row_of.ensures _) c.joined_into.ensures

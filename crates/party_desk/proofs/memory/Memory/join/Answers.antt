@@ -5,7 +5,8 @@ use Rattle.std.proofs.lemmas.Nat.{mul-le}
 use Rattle.circuit_model.specs.declared.gate.Gate.{Gate}
 use Rattle.job_session.specs.declared.row_table.RowTable.{RowTable}
 use Rattle.session_slots.specs.declared.side.Side.TheVariants.{First, Second}
-use Rattle.session_slots.specs.Sessions.{gate, mask_wire, product_wire, Session}
+use Rattle.session_slots.specs.Sessions.{gate, mask_wire, product_in, product_wire, Session}
+use Rattle.session_slots.specs.Sessions.Slot.{Mask_product}
 use Rattle.session_slots.proofs.RowNames.{mask_within, product_named}
 use Rattle.job_plan.specs.Plans.{session}
 use Rattle.party_desk.proofs.NamedRows.{gate_named}
@@ -30,11 +31,12 @@ join_row-requires-clause-masks c =
     let fits = c.requires.fits in
     let long = ap length c.as_mut_slice-rows.ensures.value ∙ fits.rows in
     let same = c.shares-shares.ensures.is in
-    let a : c.mask_wire.result ≡ mask_wire x c.args.t First = c.mask_wire.ensures ∙ ap (λ (z : Session). mask_wire z c.args.t First) c.part-part.ensures in
-    let b : c.mask_wire-2.result ≡ mask_wire x c.args.t Second = c.mask_wire-2.ensures ∙ ap (λ (z : Session). mask_wire z c.args.t Second) c.part-part.ensures in
-    let d : c.product_wire.result ≡ product_wire x c.args.t = c.product_wire.ensures ∙ ap (λ (z : Session). product_wire z c.args.t) c.part-part.ensures in
+    let masks = c.product_of_masks.ensures ∙ ap (λ (z : Session). product_in z (Mask_product c.args.t)) c.part-part.ensures in
+    let a : c.product_of_masks.result.first ≡ mask_wire x c.args.t First = ap (λ (g : Gate). g.first) masks in
+    let b : c.product_of_masks.result.second ≡ mask_wire x c.args.t Second = ap (λ (g : Gate). g.second) masks in
+    let d : c.product_of_masks.result.output ≡ product_wire x c.args.t = ap (λ (g : Gate). g.output) masks in
     let row_is : (w : ℕ) → slice_index c.rows.result.now w ≡ slice_index (arc_value c.args.self.now.table).rows.items w = λ w. ap (λ xs. slice_index xs w) c.rows.ensures ∙ ap (λ (z : RowTable). slice_index z.rows.items w) c.deref.ensures in (
-      row_fits _ _ _ c.mask_wire.result _ _ _ fits.table.0.below (omega (arith, a, mask_within x c.args.t First c.requires.gate c.requires.prepared, fits.table.0.wires)) (ap (λ (g : Gate). g.first) c.on_rows-placed.ensures ∙ row_is _) same long,
-      row_fits _ _ _ c.mask_wire-2.result _ _ _ fits.table.0.below (omega (arith, b, mask_within x c.args.t Second c.requires.gate c.requires.prepared, fits.table.0.wires)) (ap (λ (g : Gate). g.second) c.on_rows-placed.ensures ∙ row_is _) same long,
-      row_fits _ _ _ c.product_wire.result _ _ _ fits.table.0.below (omega (arith, d, product_named x c.args.t c.requires.gate c.requires.prepared, fits.table.0.wires)) (ap (λ (g : Gate). g.output) c.on_rows-placed.ensures ∙ row_is _) same long,
+      row_fits _ _ _ c.product_of_masks.result.first _ _ _ fits.table.0.below (omega (arith, a, mask_within x c.args.t First c.requires.gate c.requires.prepared, fits.table.0.wires)) (ap (λ (g : Gate). g.first) c.on_rows-placed.ensures ∙ row_is _) same long,
+      row_fits _ _ _ c.product_of_masks.result.second _ _ _ fits.table.0.below (omega (arith, b, mask_within x c.args.t Second c.requires.gate c.requires.prepared, fits.table.0.wires)) (ap (λ (g : Gate). g.second) c.on_rows-placed.ensures ∙ row_is _) same long,
+      row_fits _ _ _ c.product_of_masks.result.output _ _ _ fits.table.0.below (omega (arith, d, product_named x c.args.t c.requires.gate c.requires.prepared, fits.table.0.wires)) (ap (λ (g : Gate). g.output) c.on_rows-placed.ensures ∙ row_is _) same long,
     )

@@ -2,6 +2,7 @@ use Rattle.std.proofs.Common.{◌≡◌, ℕ, ◌<◌, true, List, [], length, a
 use Rattle.std.specs.Prelude.{slice_index_or}
 use Rattle.std.specs.Global.{Vec}
 use Rattle.std.proofs.lemmas.Bool.{and_parts}
+use Rattle.circuit_model.specs.declared.gate.Gate.{Gate}
 use Rattle.circuit_model.specs.Circuits.{is_product}
 use Rattle.session_slots.specs.declared.side.Side.{Side}
 use Rattle.session_slots.specs.declared.side.Side.TheVariants.{First, Second}
@@ -58,9 +59,9 @@ product_growth-requires c =
     let e = c.requires.prepared in
     record {
       party = c.requires.party;
-      first = ap length (row_is plan self fits t lt e c.part-part.result.now First _ _ c.part-part.ensures c.mask_wire.ensures c.row-a.ensures)
+      first = ap length (row_is plan self fits t lt e c.part-part.result.now First _ _ c.part-part.ensures (ap (λ (g : Gate). g.first) c.product_of_masks-masks.ensures) c.row-a.ensures)
           ∙ (fits.rows.masks t First lt e).long;
-      second = ap length (row_is plan self fits t lt e c.part-part.result.now Second _ _ c.part-part.ensures c.mask_wire-2.ensures c.row-b.ensures)
+      second = ap length (row_is plan self fits t lt e c.part-part.result.now Second _ _ c.part-part.ensures (ap (λ (g : Gate). g.second) c.product_of_masks-masks.ensures) c.row-b.ensures)
           ∙ (fits.rows.masks t Second lt e).long;
       moved_first = ap length (first_is plan self fits t lt e _ _ c.index-moved_a.ensures c.deref.ensures.value) ∙ mask_wide plan self fits t First lt e;
       moved_second = ap length (second_is plan self fits t lt e _ _ c.index-moved_b.ensures c.deref-2.ensures.value) ∙ mask_wide plan self fits t Second lt e;
@@ -77,8 +78,8 @@ returns-clause-is c =
     let x : Session = session plan self.session in
     c.product_growth.ensures.is
     ∙ ap₂ (λ a b. product_growth plan c.args.p a b c.deref.result.now c.deref-2.result.now)
-    (row_is plan self fits t lt e c.part-part.result.now First _ _ c.part-part.ensures c.mask_wire.ensures c.row-a.ensures)
-    (row_is plan self fits t lt e c.part-part.result.now Second _ _ c.part-part.ensures c.mask_wire-2.ensures c.row-b.ensures)
+    (row_is plan self fits t lt e c.part-part.result.now First _ _ c.part-part.ensures (ap (λ (g : Gate). g.first) c.product_of_masks-masks.ensures) c.row-a.ensures)
+    (row_is plan self fits t lt e c.part-part.result.now Second _ _ c.part-part.ensures (ap (λ (g : Gate). g.second) c.product_of_masks-masks.ensures) c.row-b.ensures)
     ∙ ap₂ (λ a b. product_growth plan c.args.p (slice_index_or self.rows (mask_wire x t First) []) (slice_index_or self.rows (mask_wire x t Second) []) a b)
     (first_is plan self fits t lt e _ _ c.index-moved_a.ensures c.deref.ensures.value)
     (second_is plan self fits t lt e _ _ c.index-moved_b.ensures c.deref-2.ensures.value)
