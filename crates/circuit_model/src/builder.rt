@@ -74,7 +74,7 @@ impl Builder {
     ) -> Result<Builder, CircuitFault>
         ensures { Gives result (start_of ring gates wires inputs.items outputs.items lines) }
     {
-        let _ = ring.bits();
+        ring.recall();
         check_header(gates, wires, &inputs, &outputs, lines)?;
         let set = start_set(alloc, wires as usize, count_wires(&inputs))?;
         let gates_to_come = Vec::with_capacity(alloc, gates as usize)?;

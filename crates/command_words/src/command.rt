@@ -1,7 +1,6 @@
 //! Commands, and the words that ask for them.
 ghost use Rattle.std.specs.Prelude.{◌≡◌, map, Some, None, IfOk, IfSome, OnErr, option_map, string_bytes};
-ghost use Rattle.command_words.specs.Commands.{is_plain, count_up_to, with_option, with_options, options_form, AreInRange};
-ghost use Rattle.command_words.specs.Commands.{run_asked, check_asked, pair_asked, node_asked, sample_asked, audit_asked, asked, command_of, form_of, IsInRange};
+ghost use Rattle.command_words.specs.Commands.{is_plain, count_up_to, with_option, with_options, options_form, AreInRange, run_asked, check_asked, pair_asked, node_asked, sample_asked, audit_asked, asked, command_of, form_of, IsInRange};
 
 use job_limits::{MOST_GATES, MOST_WORKERS};
 use text_tokens::number;

@@ -1,10 +1,10 @@
 -- A world that is opened is at its start.
 use Rattle.std.proofs.Common.{◌≡◌, ℕ, zero, suc, List, length, replicate, refl, sym, ap, ◌∙◌}
 use Rattle.std.specs.Prelude.{Option, None, Some}
-use Rattle.job_plan.specs.Plans.{Plan}
-use Rattle.job_plan.specs.InputWords.{AreInputs}
-use Rattle.job_plan.specs.Sound.{IsSound}
-use Rattle.job_plan.specs.Messages.{messages}
+use Rattle.plan_model.specs.Plans.{Plan}
+use Rattle.plan_model.specs.InputWords.{AreInputs}
+use Rattle.plan_model.specs.Sound.{IsSound}
+use Rattle.plan_model.specs.Messages.{messages}
 use Rattle.message_board.specs.Plain.{plain_cell}
 use Rattle.share_world.specs.Worlds.{World}
 use Rattle.desk_laws.specs.Pieces.{world_of_pieces, ArePieces}

@@ -6,16 +6,16 @@ use Rattle.std.proofs.Math.ListN.{length-set}
 use Rattle.std.proofs.lemmas.List.{set-get_or, get_or_past}
 use Rattle.std.proofs.lemmas.Bool.{cases_eq, cases_lt}
 use mathlib.Core.Logic.{inl as left', inr as right}
-use Rattle.job_plan.specs.Numbers.{message}
+use Rattle.plan_model.specs.Numbers.{message}
 use Rattle.share_world.specs.Worlds.{World, word}
-use Rattle.message_board.specs.Plain.{plain_cell, plain_put}
+use Rattle.message_board.specs.Plain.{plain_cell, plain_put, answer}
 use Rattle.message_board.specs.declared.plain.PlainCells.{PlainCells}
-use Rattle.party_program.specs.declared.program.Instruction.{Instruction}
-use Rattle.party_program.specs.declared.program.Instruction.TheVariants.{Draw, Deal, Post, Take, Linear, Own, Sum, Open, Join, Deliver, End}
+use Rattle.program_model.specs.declared.instruction.Instruction.{Instruction}
+use Rattle.program_model.specs.declared.instruction.Instruction.TheVariants.{Draw, Deal, Post, Take, Linear, Own, Sum, Open, Join, Deliver, End}
 use Rattle.party_desk.specs.declared.desk.Desk.{Desk}
 use Rattle.party_desk.specs.declared.desk.Stepped.{Stepped}
 use Rattle.party_desk.specs.declared.desk.Stepped.TheVariants.{Moved, NotYet, Ended}
-use Rattle.party_program.specs.Programs.{at}
+use Rattle.program_model.specs.Programs.{at}
 use Rattle.party_desk.specs.Desks.{IsDesk, Waits, instruction_at}
 use Rattle.core_world.specs.Schedules.{Standing, standing, told, cells_after, step_from, step, tells}
 use Rattle.core_world.specs.States.{IsState, StuckOn}
@@ -23,9 +23,8 @@ use Rattle.desk_laws.specs.Pools.{moves_of, left_all}
 use Rattle.share_world.specs.Laws.{IsWhole}
 use Rattle.program_laws.specs.Lawful.{given_to, program_of}
 use Rattle.program_laws.proofs.LawfulWorlds.{lawful}
-use Rattle.job_plan.specs.Plans.{Plan}
+use Rattle.plan_model.specs.Plans.{Plan}
 use Rattle.message_board.specs.declared.cells.Cells.{Ghosts as Meaning}
-use Rattle.message_board.specs.Plain.{answer}
 use Rattle.desk_laws.specs.InWorld.{Serves, MayStepIn, DoesIn, StepsIn}
 use Rattle.desk_laws.proofs.Elements.{element_there, stands_at, by_place, by_element}
 use Rattle.desk_laws.proofs.StepCounts.{left_set, waited, counts as desk_counts}

@@ -11,10 +11,10 @@ use mathlib.Core.Logic.{inl, inr}
 use Rattle.list_laws.specs.Lists.{total, joined}
 use Rattle.list_laws.proofs.Totals.{total_eq}
 use Rattle.list_laws.proofs.JoinedLists.{length-joined, length-listed, listed_at, joined_at, total_within, every_joined, every_at}
-use Rattle.job_plan.specs.Plans.{Plan, words, place}
-use Rattle.job_plan.specs.InputWords.{AreInputs, given}
-use Rattle.job_plan.specs.Sound.{IsSound}
-use Rattle.job_plan.specs.Numbers.{message}
+use Rattle.plan_model.specs.Plans.{Plan, words, place}
+use Rattle.plan_model.specs.InputWords.{AreInputs, given}
+use Rattle.plan_model.specs.Sound.{IsSound}
+use Rattle.plan_model.specs.Numbers.{message}
 use Rattle.share_world.specs.Worlds.{World, word}
 use Rattle.party_desk.specs.declared.desk.Desk.{Desk}
 use Rattle.party_desk.specs.Desks.{IsDesk}

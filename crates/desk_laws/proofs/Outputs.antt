@@ -6,14 +6,14 @@ use Rattle.std.proofs.lemmas.Bool.{both_ways, cases_lt}
 use mathlib.Core.Logic.{inl, inr}
 use Rattle.session_slots.specs.Sessions.{readers}
 use Rattle.session_slots.proofs.SessionSlots.{slots_are_numbered}
-use Rattle.job_plan.specs.Plans.{session, reads, words, words_before}
+use Rattle.plan_model.specs.Plans.{session, reads, words, words_before}
 use Rattle.share_world.specs.Worlds.{World, word}
 use Rattle.share_world.specs.Laws.{IsWhole}
 use Rattle.share_world.proofs.SentWords.{opened_are_plain}
 use Rattle.share_world.proofs.SmallWords.{is_world, small_words}
-use Rattle.party_program.specs.Programs.{program}
-use Rattle.party_program.specs.States.{new_state, state}
-use Rattle.party_program.proofs.InstructionLists.{state_is, run_all}
+use Rattle.program_model.specs.Programs.{program}
+use Rattle.program_model.specs.States.{new_state, state}
+use Rattle.program_model.proofs.InstructionLists.{state_is, run_all}
 use Rattle.program_laws.specs.Lawful.{given_in}
 use Rattle.program_laws.proofs.LocalPrograms.{met}
 use Rattle.program_laws.proofs.OpenedOutputs.{opens_right}

@@ -8,15 +8,15 @@ use mathlib.Core.Logic.{inl, inr}
 use Rattle.list_laws.specs.Lists.{total}
 use Rattle.list_laws.proofs.JoinedLists.{length-joined}
 use Rattle.list_laws.proofs.Totals.{total_eq}
-use Rattle.job_plan.specs.Plans.{Plan, slot, slots}
-use Rattle.job_plan.specs.Messages.{messages, slot_messages}
-use Rattle.job_plan.specs.Numbers.{message}
-use Rattle.job_plan.specs.Firsts.{count, session_count, first}
+use Rattle.plan_model.specs.Plans.{Plan, slot, slots}
+use Rattle.plan_model.specs.Messages.{messages, slot_messages}
+use Rattle.plan_model.specs.Numbers.{message}
+use Rattle.plan_model.specs.Firsts.{count, session_count, first}
 use Rattle.share_world.specs.Worlds.{World, word}
 use Rattle.share_world.specs.Laws.{IsWhole}
 use Rattle.share_world.proofs.SmallWords.{is_plan}
-use Rattle.party_program.specs.declared.program.Instruction.TheVariants.{Post, Take}
-use Rattle.party_program.specs.Programs.{program, at}
+use Rattle.program_model.specs.declared.instruction.Instruction.TheVariants.{Post, Take}
+use Rattle.program_model.specs.Programs.{program, at}
 use Rattle.party_desk.specs.declared.desk.Desk.{Desk}
 use Rattle.party_desk.specs.Desks.{IsDesk}
 use Rattle.program_laws.specs.Lawful.{given_in, given_to, program_of}

@@ -8,14 +8,14 @@ use Rattle.std.proofs.lemmas.Nat.{pow_pos}
 use Rattle.std.proofs.Math.Nat.{mod-lt}
 use mathlib.Core.Logic.{inl, inr}
 use Rattle.session_slots.specs.Sessions.{Slot}
-use Rattle.job_plan.specs.Plans.{Plan}
+use Rattle.plan_model.specs.Plans.{Plan}
 use Rattle.session_slots.specs.Sessions.Slot.{Input, At_gate, Output, Mask, Mask_product, Masked, Kept}
-use Rattle.job_plan.specs.Messages.{messages}
-use Rattle.job_plan.proofs.PlanSchemes.{plan_is}
-use Rattle.party_program.specs.declared.program.Instruction.{Instruction}
-use Rattle.party_program.specs.declared.program.Instruction.TheVariants.{Draw, Deal, Post, Take, Linear, Own, Sum, Open, Join, Deliver, End}
-use Rattle.party_program.specs.States.{Given, State, slot_of, posted}
-use Rattle.party_program.specs.Proper.{Proper}
+use Rattle.plan_model.specs.Messages.{messages}
+use Rattle.plan_model.proofs.PlanSchemes.{plan_is}
+use Rattle.program_model.specs.declared.instruction.Instruction.{Instruction}
+use Rattle.program_model.specs.declared.instruction.Instruction.TheVariants.{Draw, Deal, Post, Take, Linear, Own, Sum, Open, Join, Deliver, End}
+use Rattle.program_model.specs.States.{Given, State, slot_of, posted}
+use Rattle.program_model.specs.Proper.{Proper}
 use Rattle.program_laws.proofs.OncePosted.{once}
 use Rattle.party_desk.specs.declared.desk.Desk.{Desk}
 use Rattle.party_desk.specs.Memories.{state_of, row_of, on_wires, IsMemoryOf}

@@ -1,8 +1,8 @@
 -- All desks of a world, over any cells.
 use Rattle.std.specs.Prelude.{◌≡◌, ◌⊎◌, ℕ, ◌+◌, ◌-◌, ◌*◌, ◌/◌, ◌%◌, List, [], ◌∷◌, length, slice_get, Some}
 use Rattle.share_world.specs.Worlds.{World}
-use Rattle.party_program.specs.declared.program.Instruction.TheVariants.{Take}
-use Rattle.party_program.specs.Programs.{at}
+use Rattle.program_model.specs.declared.instruction.Instruction.TheVariants.{Take}
+use Rattle.program_model.specs.Programs.{at}
 use Rattle.party_desk.specs.declared.desk.Desk.{Desk}
 use Rattle.party_desk.specs.declared.desk.Stepped.{Stepped}
 use Rattle.party_desk.specs.declared.desk.Stepped.TheVariants.{Moved, NotYet, Ended}

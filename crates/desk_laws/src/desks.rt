@@ -1,7 +1,7 @@
 //! Opens the desks of a world.
 ghost use Rattle.std.specs.Prelude.{◌≡◌, ◌<◌, ◌^◌, All, IfOk, length};
-ghost use Rattle.job_plan.specs.Plans.{words};
-ghost use Rattle.job_plan.specs.InputWords.{AreInputs, given};
+ghost use Rattle.plan_model.specs.Plans.{words};
+ghost use Rattle.plan_model.specs.InputWords.{AreInputs, given};
 ghost use Rattle.party_desk.specs.Desks.{IsNew};
 ghost use Rattle.desk_laws.specs.Pieces.{ArePieces};
 ghost use Rattle.desk_laws.specs.NewDesks.{AreNewDesks};

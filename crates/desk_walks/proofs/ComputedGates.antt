@@ -1,12 +1,12 @@
 -- Where a desk stands that has something of a gate to compute next.
 use Rattle.std.proofs.Common.{◌≡◌, ℕ, ◌+◌, ◌<◌, ◌≤◌, true, sym, ◌∙◌}
 use Rattle.secret_sharing.specs.Schemes.{has_pair}
-use Rattle.job_plan.specs.declared.pattern.Pattern.TheVariants.{Silent, Multiplied}
-use Rattle.job_plan.specs.Plans.{scheme}
-use Rattle.job_plan.proofs.PlanSchemes.{plan_is}
-use Rattle.party_program.specs.declared.half.Half.TheVariants.{Head, Tail}
-use Rattle.party_program.specs.declared.program.Instruction.TheVariants.{Linear, Own, Sum, Take}
-use Rattle.party_program.specs.States.{Given}
+use Rattle.plan_model.specs.declared.pattern.Pattern.TheVariants.{Silent, Multiplied}
+use Rattle.plan_model.specs.Plans.{scheme}
+use Rattle.plan_model.proofs.PlanSchemes.{plan_is}
+use Rattle.program_model.specs.declared.half.Half.TheVariants.{Head, Tail}
+use Rattle.program_model.specs.declared.instruction.Instruction.TheVariants.{Linear, Own, Sum, Take}
+use Rattle.program_model.specs.States.{Given}
 use Rattle.party_program.proofs.GateInstructions.{linear_place, own_place, sum_place}
 use Rattle.party_program.proofs.ProgramPlaces.{ends_there}
 use Rattle.party_desk.specs.declared.desk.Desk.{Desk}

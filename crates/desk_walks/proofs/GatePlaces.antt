@@ -8,23 +8,23 @@ use Rattle.job_session.specs.Batches.{IsBatch}
 use Rattle.session_slots.specs.Sessions.{Session, Slot, owners, session_slot, session_slots, product_in}
 use Rattle.session_slots.specs.Sessions.Slot.{Input, At_gate, Output, Mask, Mask_product, Masked, Kept}
 use Rattle.session_slots.proofs.SessionSlots.{slot_cases}
-use Rattle.job_plan.specs.declared.pattern.Pattern.TheVariants.{Silent, Multiplied, Joined}
-use Rattle.job_plan.specs.Plans.{IsPlan, Plan, session, slot, slots}
-use Rattle.job_plan.specs.Numbers.{deals_before}
-use Rattle.job_plan.specs.Patterns.{pattern, pattern_at}
-use Rattle.job_plan.proofs.PlanSchemes.{plan_is}
-use Rattle.party_program.specs.declared.half.Half.{Half}
-use Rattle.party_program.specs.declared.half.Half.TheVariants.{Head, Tail}
+use Rattle.plan_model.specs.declared.pattern.Pattern.TheVariants.{Silent, Multiplied, Joined}
+use Rattle.plan_model.specs.Plans.{IsPlan, Plan, session, slot, slots}
+use Rattle.plan_model.specs.Numbers.{deals_before}
+use Rattle.plan_model.specs.Patterns.{pattern, pattern_at}
+use Rattle.plan_model.proofs.PlanSchemes.{plan_is}
+use Rattle.program_model.specs.declared.half.Half.{Half}
+use Rattle.program_model.specs.declared.half.Half.TheVariants.{Head, Tail}
 use Rattle.party_program.specs.declared.place.Place.{Place}
-use Rattle.party_program.specs.declared.program.Instruction.{Instruction}
-use Rattle.party_program.specs.declared.program.Instruction.TheVariants.{Linear, Post, Sum, End}
+use Rattle.program_model.specs.declared.instruction.Instruction.{Instruction}
+use Rattle.program_model.specs.declared.instruction.Instruction.TheVariants.{Linear, Post, Sum, End}
 use Rattle.party_program.specs.declared.step.Step.{Step}
 use Rattle.party_program.specs.declared.step.Step.TheVariants as step
-use Rattle.party_program.specs.Programs.{first_named, half_program, program, at}
+use Rattle.program_model.specs.Programs.{first_named, half_program, program, at}
 use Rattle.party_program.specs.PartySteps.{steps, placed}
-use Rattle.party_program.specs.Proper.{IsGate, IsGivenWord, IsSlot, Multiplies, Proper, drawn_by}
+use Rattle.program_model.specs.Proper.{IsGate, IsGivenWord, IsSlot, Multiplies, Proper, drawn_by}
 use Rattle.party_program.specs.ProgramPlaces.{position_of, InProduct, IsPlace}
-use Rattle.party_program.specs.States.{Given, computed, summed}
+use Rattle.program_model.specs.States.{Given, computed, summed}
 use Rattle.party_program.proofs.GateInstructions.{linear_place}
 use Rattle.party_program.proofs.ProgramPlaces.{batch_of, before_more, count_at, ends_there, in_slot, instruction_is, length-half, step_is}
 use Rattle.party_program.proofs.GateSlots.{first_place, first_is, linear_at, linear_more, linear_one}

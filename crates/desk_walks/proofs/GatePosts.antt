@@ -4,26 +4,26 @@ use Rattle.std.specs.Prelude.{slice_index, slice_index_or}
 use Rattle.std.proofs.lemmas.Bool.{cases_lt}
 use Rattle.secret_sharing.specs.Schemes.{has_pair}
 use Rattle.session_slots.specs.KeptWires.{sets_in}
-use Rattle.job_plan.specs.declared.pattern.Pattern.TheVariants.{Multiplied}
-use Rattle.job_plan.specs.Plans.{Plan, scheme, session, slot, slots}
-use Rattle.job_plan.specs.Numbers.{message}
-use Rattle.job_plan.specs.Sound.{IsSound}
+use Rattle.plan_model.specs.declared.pattern.Pattern.TheVariants.{Multiplied}
+use Rattle.plan_model.specs.Plans.{Plan, scheme, session, slot, slots}
+use Rattle.plan_model.specs.Numbers.{message}
+use Rattle.plan_model.specs.Sound.{IsSound}
 use Rattle.message_board.specs.declared.cells.Posted.{Posted}
 use Rattle.message_board.specs.declared.steps.View.{View}
 use Rattle.message_board.specs.Pairs.{Knows}
 use Rattle.message_board.specs.Rule.{posts, looks, sees}
 use Rattle.message_board.specs.Seats.{Sitting, IsPostAnswer}
-use Rattle.job_plan.proofs.PlanSchemes.{plan_is}
-use Rattle.party_program.specs.declared.half.Half.TheVariants.{Head, Tail}
+use Rattle.plan_model.proofs.PlanSchemes.{plan_is}
+use Rattle.program_model.specs.declared.half.Half.TheVariants.{Head, Tail}
 use Rattle.party_program.specs.declared.place.Place.{Place}
-use Rattle.party_program.specs.declared.program.Instruction.{Instruction}
-use Rattle.party_program.specs.declared.program.Instruction.TheVariants.{Post, Take, Sum, End}
+use Rattle.program_model.specs.declared.instruction.Instruction.{Instruction}
+use Rattle.program_model.specs.declared.instruction.Instruction.TheVariants.{Post, Take, Sum, End}
 use Rattle.party_program.specs.declared.step.Step.{Step}
-use Rattle.party_program.specs.Programs.{half_program, program, at}
+use Rattle.program_model.specs.Programs.{half_program, program, at}
 use Rattle.party_program.specs.PartySteps.{steps}
 use Rattle.party_program.specs.ProgramPlaces.{position_of, InProduct, IsPlace, IsProgram}
-use Rattle.party_program.specs.Proper.{IsGivenWord, IsSlot, Multiplies}
-use Rattle.party_program.specs.States.{Given, posted, taking_slot, took_in}
+use Rattle.program_model.specs.Proper.{IsGivenWord, IsSlot, Multiplies}
+use Rattle.program_model.specs.States.{Given, posted, taking_slot, took_in}
 use Rattle.party_program.proofs.GateSlots.{product_at, product_count, product_ends, product_there, product_two}
 use Rattle.party_program.proofs.ProgramPlaces.{batch_of, count_at, half_within, in_slot, is_own}
 use Rattle.program_laws.proofs.Lengths.{program_is_short}

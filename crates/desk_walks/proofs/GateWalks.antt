@@ -1,15 +1,15 @@
 -- Instructions at gates, one after another.
 use Rattle.std.proofs.Common.{◌≡◌, ◌≢◌, ℕ, ◌+◌, ◌-◌, ◌<◌, ◌≤◌, Bool, true, false, if◌then◌else◌, List, refl, sym, ap, ◌∙◌, subst, inl, inr, arith}
 use Rattle.std.proofs.lemmas.Bool.{cases_lt}
-use Rattle.job_plan.specs.Plans.{Plan, slot}
+use Rattle.plan_model.specs.Plans.{Plan, slot}
 use Rattle.message_board.specs.Seats.{Sitting}
 use Rattle.party_program.specs.declared.place.Place.{Place}
-use Rattle.party_program.specs.declared.program.Instruction.{Instruction}
-use Rattle.party_program.specs.declared.program.Instruction.TheVariants.{Deal, Post, End}
-use Rattle.party_program.specs.Programs.{program, at}
+use Rattle.program_model.specs.declared.instruction.Instruction.{Instruction}
+use Rattle.program_model.specs.declared.instruction.Instruction.TheVariants.{Deal, Post, End}
+use Rattle.program_model.specs.Programs.{program, at}
 use Rattle.party_program.specs.ProgramPlaces.{IsPlace}
-use Rattle.party_program.specs.Proper.{Proper, IsGivenWord}
-use Rattle.party_program.specs.States.{Given}
+use Rattle.program_model.specs.Proper.{Proper, IsGivenWord}
+use Rattle.program_model.specs.States.{Given}
 use Rattle.party_desk.specs.declared.desk.Desk.{Desk}
 use Rattle.party_desk.specs.declared.memory.Memory.{Memory}
 use Rattle.party_desk.specs.Memories.{CanDeal, IsMemoryOf}

@@ -8,21 +8,20 @@ use Rattle.circuit_model.specs.Circuits.{is_product}
 use Rattle.circuit_model.specs.declared.gate.Gate.{Gate}
 use Rattle.session_slots.specs.Sessions.{Session, gate}
 use Rattle.session_slots.specs.Sessions.Slot.{At_gate}
-use Rattle.job_plan.specs.Sound.{IsSound}
-use Rattle.job_plan.specs.declared.pattern.Pattern.TheVariants.{Multiplied}
-use Rattle.job_plan.specs.Patterns.{pattern_at}
-use Rattle.job_plan.specs.Plans.{Plan, session}
-use Rattle.job_plan.proofs.PlanSchemes.{plan_is}
-use Rattle.party_program.specs.declared.half.Half.TheVariants.{Head, Tail}
+use Rattle.plan_model.specs.Sound.{IsSound}
+use Rattle.plan_model.specs.declared.pattern.Pattern.TheVariants.{Multiplied}
+use Rattle.plan_model.specs.Patterns.{pattern_at}
+use Rattle.plan_model.specs.Plans.{Plan, session}
+use Rattle.plan_model.proofs.PlanSchemes.{plan_is}
+use Rattle.program_model.specs.declared.half.Half.TheVariants.{Head, Tail}
 use Rattle.party_program.specs.declared.place.Place.{Place}
 use Rattle.party_program.specs.ProgramPlaces.{position_of, IsPlace}
-use Rattle.party_program.specs.States.{Given}
+use Rattle.program_model.specs.States.{Given, computed}
 use Rattle.program_laws.specs.WordsRead.{gate_at}
 use Rattle.party_desk.specs.declared.desk.Desk.{Desk}
 use Rattle.party_desk.specs.declared.memory.Memory.{Memory}
 use Rattle.party_desk.specs.Memories.{state_of, row_of, on_rows, Alike, GateWithin, GatesWithin, IsMemoryOf}
 use Rattle.row_steps.specs.Rows.{AreLinear, FillsRow, FillsRows, IsFirstProduct, gate_in, gate_on_rows, row}
-use Rattle.party_program.specs.States.{computed}
 use Rattle.party_desk.specs.Desks.{IsDesk}
 use Rattle.desk_walks.specs.Walks.{AreGatesFrom, Computes, IsBefore, NoPosts, at_place}
 use Rattle.desk_walks.proofs.GateWalks.{posts_on}

@@ -3,15 +3,15 @@ use Rattle.std.proofs.Common.{◌≡◌, ℕ, ◌+◌, ◌-◌, ◌<◌, ◌≤�
 use Rattle.std.specs.Prelude.{slice_index}
 use Rattle.circuit_model.specs.declared.gate.Gate.{Gate}
 use Rattle.secret_sharing.specs.Schemes.{has_pair}
-use Rattle.job_plan.specs.Plans.{Plan, scheme, slot}
-use Rattle.job_plan.specs.Numbers.{deals_before}
-use Rattle.job_plan.proofs.PlanSchemes.{plan_is}
-use Rattle.party_program.specs.declared.half.Half.TheVariants.{Head}
-use Rattle.party_program.specs.declared.program.Instruction.TheVariants.{Deal, Own, Post}
-use Rattle.party_program.specs.Programs.{program, at}
+use Rattle.plan_model.specs.Plans.{Plan, scheme, slot}
+use Rattle.plan_model.specs.Numbers.{deals_before}
+use Rattle.plan_model.proofs.PlanSchemes.{plan_is}
+use Rattle.program_model.specs.declared.half.Half.TheVariants.{Head}
+use Rattle.program_model.specs.declared.instruction.Instruction.TheVariants.{Deal, Own, Post}
+use Rattle.program_model.specs.Programs.{program, at}
 use Rattle.party_program.specs.ProgramPlaces.{InProduct, IsPlace}
-use Rattle.party_program.specs.Proper.{IsSlot, Multiplies}
-use Rattle.party_program.specs.States.{Given, dealt_as, multiplied}
+use Rattle.program_model.specs.Proper.{IsSlot, Multiplies}
+use Rattle.program_model.specs.States.{Given, dealt_as, multiplied}
 use Rattle.party_program.proofs.GateSlots.{product_deal, product_own, product_two}
 use Rattle.program_laws.specs.WordsRead.{gate_at}
 use Rattle.party_desk.specs.declared.desk.Desk.{Desk}

@@ -1,12 +1,12 @@
 -- Steps of a desk on a board, with a seat of it as cells.
 use Rattle.std.proofs.Common.{◌≡◌, ◌≢◌, ℕ, ◌<◌, List, length, Some, sym, ap, subst, arith}
 use Rattle.std.specs.Prelude.{slice_get}
-use Rattle.job_plan.specs.Plans.{Plan}
+use Rattle.plan_model.specs.Plans.{Plan}
 use Rattle.message_board.specs.declared.cells.Cells.{Ghosts as Meaning}
 use Rattle.message_board.specs.declared.seat_at.SeatAt.{SeatAt}
 use Rattle.message_board.specs.Pairs.{Knows}
 use Rattle.message_board.specs.Seats.{IsSeatOf, HasPosted, HasTaken, AllBelow}
-use Rattle.party_program.specs.States.{Given}
+use Rattle.program_model.specs.States.{Given}
 use Rattle.party_desk.specs.declared.desk.Desk.{Desk}
 use Rattle.party_desk.specs.declared.desk.Stepped.{Stepped}
 use Rattle.party_desk.specs.declared.desk.Stepped.TheVariants.{Moved}

@@ -5,22 +5,22 @@ use Rattle.circuit_model.specs.Circuits.{is_product}
 use Rattle.job_session.specs.Batches.{IsBatch}
 use Rattle.session_slots.specs.Sessions.{Session, owners, gate, session_slot, session_slots}
 use Rattle.session_slots.specs.Sessions.Slot.{At_gate}
-use Rattle.job_plan.specs.declared.pattern.Pattern.{Pattern}
-use Rattle.job_plan.specs.declared.pattern.Pattern.TheVariants.{Multiplied, Silent}
-use Rattle.job_plan.specs.Plans.{Plan, scheme, session}
+use Rattle.plan_model.specs.declared.pattern.Pattern.{Pattern}
+use Rattle.plan_model.specs.declared.pattern.Pattern.TheVariants.{Multiplied, Silent}
+use Rattle.plan_model.specs.Plans.{Plan, scheme, session}
 use Rattle.secret_sharing.specs.Schemes.{has_pair}
 use Rattle.message_board.specs.Pairs.{Knows, Grows}
 use Rattle.message_board.specs.Seats.{Sitting, AllBelow}
-use Rattle.party_program.specs.declared.half.Half.{Half}
-use Rattle.party_program.specs.declared.half.Half.TheVariants.{Head}
+use Rattle.program_model.specs.declared.half.Half.{Half}
+use Rattle.program_model.specs.declared.half.Half.TheVariants.{Head}
 use Rattle.party_program.specs.declared.place.Place.{Place}
-use Rattle.party_program.specs.declared.program.Instruction.{Instruction}
+use Rattle.program_model.specs.declared.instruction.Instruction.{Instruction}
 use Rattle.party_program.specs.declared.program.Program.{Program}
-use Rattle.party_program.specs.declared.program.Instruction.TheVariants.{Linear, Own, Post, Sum, Take}
-use Rattle.party_program.specs.Programs.{program, at}
+use Rattle.program_model.specs.declared.instruction.Instruction.TheVariants.{Linear, Own, Post, Sum, Take}
+use Rattle.program_model.specs.Programs.{program, at}
 use Rattle.party_program.specs.ProgramPlaces.{position_of, InProduct, IsPlace, IsProgram}
-use Rattle.party_program.specs.States.{Given}
-use Rattle.party_program.specs.Proper.{IsSlot, Multiplies}
+use Rattle.program_model.specs.States.{Given}
+use Rattle.program_model.specs.Proper.{IsSlot, Multiplies}
 use Rattle.party_desk.specs.declared.desk.Desk.{Desk}
 use Rattle.party_desk.specs.declared.memory.Memory.{Memory}
 use Rattle.party_desk.specs.Memories.{IsMemoryOf}

@@ -5,20 +5,17 @@ ghost use Rattle.std.specs.Prelude.{◌≡◌, ℕ, ◌+◌, ◌-◌, ◌<◌, �
 ghost use Rattle.secret_sharing.specs.Schemes.{has_pair};
 ghost use Rattle.session_slots.specs.Sessions.{session_slots};
 ghost use Rattle.session_slots.specs.SoundSessions.{IsSoundSession};
-ghost use Rattle.job_plan.specs.declared.pattern.Pattern.TheVariants.{Multiplied, Silent};
-ghost use Rattle.job_plan.specs.Plans.{scheme, session};
+ghost use Rattle.plan_model.specs.declared.pattern.Pattern.TheVariants.{Multiplied, Silent};
+ghost use Rattle.plan_model.specs.Plans.{scheme, session};
 ghost use Rattle.message_board.specs.Seats.{IsSeatOf};
-ghost use Rattle.party_program.specs.declared.half.Half.TheVariants.{Head, Tail};
-ghost use Rattle.party_program.specs.declared.program.Instruction.TheVariants.{Linear, Sum};
+ghost use Rattle.program_model.specs.declared.half.Half.TheVariants.{Head, Tail};
+ghost use Rattle.program_model.specs.declared.instruction.Instruction.TheVariants.{Linear, Sum};
 ghost use Rattle.party_program.specs.ProgramPlaces.{InProduct};
-ghost use Rattle.party_program.specs.States.{Given};
+ghost use Rattle.program_model.specs.States.{Given};
 ghost use Rattle.program_laws.specs.WordsRead.{gate_at};
 ghost use Rattle.row_steps.specs.Rows.{gate_in};
 ghost use Rattle.party_desk.specs.Desks.{instruction_at};
-ghost use Rattle.desk_walks.specs.Walks.{MayTake, TakesLead, LooksAfter, WaitsAfter, AreGatesFrom, IsAmongGates};
-ghost use Rattle.desk_walks.specs.Walks.{IsDeskOfPlan, CanWalk, ForWalking, HasWords, Computes, NoPosts, Walks, Sends};
-ghost use Rattle.desk_walks.specs.Walks.{IsBefore, IsSending, IsAtTake};
-ghost use Rattle.desk_walks.specs.Walks.{HasLooked, NothingToCompute, WentOn, DoesHead, DoesSilentHead};
+ghost use Rattle.desk_walks.specs.Walks.{MayTake, TakesLead, LooksAfter, WaitsAfter, AreGatesFrom, IsAmongGates, IsDeskOfPlan, CanWalk, ForWalking, HasWords, Computes, NoPosts, Walks, Sends, IsBefore, IsSending, IsAtTake, HasLooked, NothingToCompute, WentOn, DoesHead, DoesSilentHead};
 
 use crate::beside::{is_beside, walk_beside};
 use circuit_model::Gate;

@@ -3,8 +3,8 @@ use Rattle.std.proofs.Common.{◌≡◌, ℕ, zero, suc, ◌+◌, ◌*◌, ◌/�
 use Rattle.std.proofs.Math.Nat.{mul-le-mul_right}
 use Rattle.list_laws.specs.Lists as sums
 use Rattle.message_board.specs.Pairs.{total_over}
-use Rattle.job_plan.specs.Plans.{Plan}
-use Rattle.job_plan.specs.Sound.{IsSound}
+use Rattle.plan_model.specs.Plans.{Plan}
+use Rattle.plan_model.specs.Sound.{IsSound}
 use Rattle.share_world.specs.Worlds.{World}
 use Rattle.party_desk.specs.declared.desk.Desk.{Desk}
 use Rattle.share_world.specs.Laws.{IsWhole}

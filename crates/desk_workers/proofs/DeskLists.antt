@@ -4,8 +4,8 @@ use Rattle.std.proofs.lemmas.List.{get_or-set_other}
 use Rattle.std.proofs.lemmas.Bool.{cases_eq}
 use Rattle.message_board.specs.Pairs.{Knows, Grows}
 use Rattle.message_board.specs.Seats.{BoardModel, slots_of}
-use Rattle.job_plan.specs.Plans.{Plan}
-use Rattle.job_plan.specs.Sound.{IsSound}
+use Rattle.plan_model.specs.Plans.{Plan}
+use Rattle.plan_model.specs.Sound.{IsSound}
 use Rattle.share_world.specs.Worlds.{World}
 use Rattle.party_desk.specs.declared.desk.Desk.{Desk}
 use Rattle.desk_laws.specs.Pools.{AreDesks, AllHavePosts, AllStuck, AllEnded}

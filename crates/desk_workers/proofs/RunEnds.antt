@@ -4,9 +4,9 @@ use Rattle.std.specs.Prelude.{slice_get, IsSomeAnd}
 use Rattle.message_board.specs.Pairs.{Knows, total_over}
 use Rattle.message_board.specs.Plain.{plain_cell}
 use Rattle.message_board.specs.Seats.{BoardModel, HasCells, slots_of}
-use Rattle.job_plan.specs.Plans.{Plan}
-use Rattle.job_plan.specs.Messages.{messages}
-use Rattle.job_plan.specs.Numbers.{message}
+use Rattle.plan_model.specs.Plans.{Plan}
+use Rattle.plan_model.specs.Messages.{messages}
+use Rattle.plan_model.specs.Numbers.{message}
 use Rattle.share_world.specs.Worlds.{World, word}
 use Rattle.party_desk.specs.declared.desk.Desk.{Desk}
 use Rattle.desk_laws.specs.InWorld.{IsDeskDone}

@@ -2,17 +2,17 @@
 use Rattle.std.proofs.Common.{◌≡◌, ℕ, ◌+◌, ◌/◌, ◌%◌, ◌<◌, ◌≤◌, length, Some, sym, ap, ◌∙◌, subst, inl, inr, arith}
 use Rattle.std.specs.Prelude.{◌^◌}
 use Rattle.std.proofs.lemmas.Bool.{cases_lt}
-use Rattle.job_plan.specs.Plans.{Plan}
-use Rattle.job_plan.specs.Numbers.{message}
+use Rattle.plan_model.specs.Plans.{Plan}
+use Rattle.plan_model.specs.Numbers.{message}
 use Rattle.share_world.specs.Laws.{IsWhole}
 use Rattle.share_world.specs.Worlds.{World, word}
 use Rattle.message_board.specs.Pairs.{Knows}
 use Rattle.message_board.specs.Seats.{Sitting}
-use Rattle.party_program.specs.declared.program.Instruction.{Instruction}
-use Rattle.party_program.specs.declared.program.Instruction.TheVariants.{Post, Take}
-use Rattle.party_program.specs.Programs.{at, program}
-use Rattle.party_program.specs.Proper.{Proper}
-use Rattle.party_program.specs.States.{Given}
+use Rattle.program_model.specs.declared.instruction.Instruction.{Instruction}
+use Rattle.program_model.specs.declared.instruction.Instruction.TheVariants.{Post, Take}
+use Rattle.program_model.specs.Programs.{at, program}
+use Rattle.program_model.specs.Proper.{Proper}
+use Rattle.program_model.specs.States.{Given}
 use Rattle.party_desk.specs.declared.desk.Desk.{Desk}
 use Rattle.party_desk.specs.Desks.{IsDesk}
 use Rattle.party_desk.specs.Steps as steps

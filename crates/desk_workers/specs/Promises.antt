@@ -1,11 +1,11 @@
 -- The world that a board's words are promised by.
 use Rattle.std.specs.Prelude.{ℕ, List, [], ◌∷◌, map, take}
-use Rattle.job_plan.specs.Messages.{messages}
-use Rattle.job_plan.specs.Numbers.{message}
+use Rattle.plan_model.specs.Messages.{messages}
+use Rattle.plan_model.specs.Numbers.{message}
 use Rattle.share_world.specs.Worlds.{World, word}
-use Rattle.party_program.specs.declared.program.Instruction.{Instruction}
-use Rattle.party_program.specs.declared.program.Instruction.TheVariants.{Post}
-use Rattle.party_program.specs.Programs.{program}
+use Rattle.program_model.specs.declared.instruction.Instruction.{Instruction}
+use Rattle.program_model.specs.declared.instruction.Instruction.TheVariants.{Post}
+use Rattle.program_model.specs.Programs.{program}
 use Rattle.party_desk.specs.declared.desk.Desk.{Desk}
 use Rattle.desk_laws.specs.Pieces.{world_of_pieces}
 use Rattle.desk_workers.specs.declared.promised.Promised.{Promised}

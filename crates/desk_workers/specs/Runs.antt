@@ -2,9 +2,9 @@
 use Rattle.std.specs.Prelude.{true, ◌≡◌, ℕ, ◌+◌, ◌*◌, ◌<◌, ◌≤◌, [], length, slice_get, Option, Some, IsSomeAnd, vec_capacity}
 use Rattle.list_laws.specs.Lists.{total}
 use Rattle.session_slots.specs.Sessions.{readers, output_wire}
-use Rattle.job_plan.specs.Plans.{Plan, session, reads}
-use Rattle.job_plan.specs.Messages.{messages}
-use Rattle.job_plan.specs.Numbers.{message}
+use Rattle.plan_model.specs.Plans.{Plan, session, reads}
+use Rattle.plan_model.specs.Messages.{messages}
+use Rattle.plan_model.specs.Numbers.{message}
 use Rattle.share_world.specs.Laws.{IsWhole}
 use Rattle.share_world.specs.Worlds.{World, word, plain}
 use Rattle.message_board.specs.Plain.{plain_cell}

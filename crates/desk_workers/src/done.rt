@@ -13,9 +13,9 @@ pub struct Done {
 
 impl Done {
     ghost use Rattle.std.specs.Prelude.{◌≡◌, ◌<◌, length, Some};
-    ghost use Rattle.job_plan.specs.Plans.{words};
-    ghost use Rattle.job_plan.specs.Messages.{messages};
-    ghost use Rattle.job_plan.specs.Numbers.{message};
+    ghost use Rattle.plan_model.specs.Plans.{words};
+    ghost use Rattle.plan_model.specs.Messages.{messages};
+    ghost use Rattle.plan_model.specs.Numbers.{message};
     ghost use Rattle.share_world.specs.Worlds.{World, word};
     ghost use Rattle.desk_workers.specs.Runs.{IsOver, Opens, desk_of, plain_output, instructions_of};
 

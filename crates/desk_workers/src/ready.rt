@@ -1,7 +1,7 @@
 //! A run of workers, from its memory to its end.
 ghost use Rattle.std.specs.Prelude.{◌≡◌, ◌<◌, ◌≤◌, IfOk, length, map};
 ghost use Rattle.message_board.specs.Pairs.{total_over};
-ghost use Rattle.job_plan.specs.InputWords.{AreInputs};
+ghost use Rattle.plan_model.specs.InputWords.{AreInputs};
 ghost use Rattle.share_world.specs.Laws.{IsWhole};
 ghost use Rattle.desk_laws.specs.Pieces.{ArePieces, world_of_pieces};
 ghost use Rattle.desk_workers.specs.Runs.{IsReady};

@@ -64,7 +64,7 @@ fn read_lines(alloc: Global, bytes: &[u8], ring: Ring) -> Result<Circuit, ExprFa
         rest = after;
         number += 1;
     }
-    let _ = ring.bits();
+    ring.recall();
     draft.circuit(alloc, ring)
 }
 

@@ -2,7 +2,7 @@
 use Rattle.std.specs.Prelude.{ℕ, ◌+◌, ◌-◌, ◌*◌, ◌/◌, ◌<◌, ◌^◌, List, ◌∷◌, ◌++◌, take, codes}
 use Rattle.std.specs.Int.{w16, w32, w64, to_be_bytes}
 use Rattle.byteorder.specs.Endian.{big_bytes}
-use Rattle.job_plan.specs.declared.key.Key.{Key}
+use Rattle.plan_model.specs.declared.key.Key.{Key}
 use Rattle.frame_code.specs.declared.framing.FrameForm.{FrameForm}
 use Rattle.frame_code.specs.declared.framing.FrameForm.TheVariants.{Named, Short}
 use Rattle.frame_code.specs.declared.framing.Framing.{Framing}

@@ -7,15 +7,15 @@ mod short;
 mod sizes;
 
 ghost use Rattle.std.specs.Prelude.{◌≡◌, ◌<◌, ◌≤◌, ◌^◌, ℕ, List, length, IfSome, Some};
-ghost use Rattle.job_plan.specs.declared.key.Key.{Key as Message};
+ghost use Rattle.plan_model.specs.declared.key.Key.{Key as Message};
 ghost use Rattle.frame_code.specs.declared.framing.Framing.{Framing as FramingModel};
 ghost use Rattle.frame_code.specs.Frames.{hello, frame, named_frame, frame_bytes, shown, FitsFrame};
 
 use framing::all_of;
 pub use framing::{FrameBytes, FrameForm, Framing};
-use job_plan::Key;
 use named::named_frame;
 pub use named::{named_word, read_frame};
+use plan_model::Key;
 use short::{short_frame, short_word};
 pub use sizes::{HELLO_BYTES, NAMED_BYTES};
 

@@ -1,11 +1,11 @@
 //! Frames that name their message.
 ghost use Rattle.std.specs.Prelude.{◌≡◌, ◌≢◌, ◌↔◌, ◌<◌, ◌^◌, ℕ, IfSome, IsNone, Some, slice_index};
-ghost use Rattle.job_plan.specs.declared.key.Key.{Key as Message};
+ghost use Rattle.plan_model.specs.declared.key.Key.{Key as Message};
 ghost use Rattle.frame_code.specs.Frames.{named_frame, FitsFrame};
 
 use crate::sizes::NAMED_BYTES;
 use byteorder::{BigEndian, ByteOrder};
-use job_plan::Key;
+use plan_model::Key;
 
 /// The frame that names a message and has its word.
 pub fn named_frame(key: &Key, word: u64) -> [u8; NAMED_BYTES]

@@ -1,12 +1,2 @@
-pub mod Plans
-pub mod Keeping
-pub mod Messages
-pub mod Patterns
 pub mod Tables
-pub mod Numbers
-pub mod Firsts
-pub mod Sound
-pub mod Multiply
-pub mod Tallies
 pub mod Limits
-pub mod InputWords

@@ -1,12 +1,12 @@
 //! How many messages and tape words a plan has, found without making a list of them.
 ghost use Rattle.std.specs.Prelude.{◌≡◌, ℕ, ◌+◌, ◌-◌, ◌*◌, ◌^◌, ◌<◌, ◌≤◌, ◌&&◌, nat_eq, not, length};
 ghost use Rattle.list_laws.specs.Lists.{total, joined};
-ghost use Rattle.job_plan.specs.Plans.{is_holder, session, least_held, words};
-ghost use Rattle.job_plan.specs.Keeping.{carried_count, keeping_plan};
-ghost use Rattle.job_plan.specs.Messages.{deal_message, deal_messages, kept_message, kept_messages, mask_messages, messages, open_messages};
-ghost use Rattle.job_plan.specs.Numbers.{deals};
+ghost use Rattle.plan_model.specs.Plans.{is_holder, session, least_held, words, keeping_plan};
+ghost use Rattle.session_slots.specs.Carries.{carried_count};
+ghost use Rattle.plan_model.specs.Messages.{deal_message, deal_messages, kept_message, kept_messages, mask_messages, messages, open_messages};
+ghost use Rattle.plan_model.specs.Numbers.{deals};
 ghost use Rattle.session_slots.specs.Counts.{prepared_products};
-ghost use Rattle.job_plan.specs.Tallies.{keeping_messages, openings, party_messages, masks_messages, tape_length};
+ghost use Rattle.plan_model.specs.Tallies.{keeping_messages, openings, party_messages, masks_messages, tape_length};
 
 use crate::outline::Outline;
 use job_limits::{MOST_GATES, MOST_SESSIONS, MOST_WIRES};

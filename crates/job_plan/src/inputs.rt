@@ -1,6 +1,6 @@
 //! The inputs of all parties.
 ghost use Rattle.std.specs.Prelude.{◌≡◌, ◌<◌, [], length, slice_index_or};
-ghost use Rattle.job_plan.specs.InputWords.{AreInputs, given, input_words};
+ghost use Rattle.plan_model.specs.InputWords.{AreInputs, given, input_words};
 
 use crate::plan::Plan;
 use std::marker::Model;
@@ -12,7 +12,7 @@ pub struct Inputs {
 }
 
 impl Model for Inputs {
-    ghost use Rattle.job_plan.specs.InputWords.{InputLists, input_words};
+    ghost use Rattle.plan_model.specs.InputWords.{InputLists, input_words};
 
     ghost Value = { InputLists };
 

@@ -1,15 +1,14 @@
 //! Lists where the messages of each slot begin, and each party's words.
 ghost use Rattle.std.specs.Prelude.{◌≡◌, ◌<◌, ◌≤◌, IfOk, length};
-ghost use Rattle.job_plan.specs.Messages.{messages};
-ghost use Rattle.job_plan.specs.Firsts.{first, session_starts, starts_of};
-ghost use Rattle.job_plan.specs.Firsts.{word_starts, word_starts_of};
+ghost use Rattle.plan_model.specs.Messages.{messages};
+ghost use Rattle.plan_model.specs.Firsts.{first, session_starts, starts_of, word_starts, word_starts_of};
 ghost use Rattle.job_plan.specs.Tables.{AreTransfers};
 
 use crate::counts::session_words;
 use crate::outline::Outline;
 use crate::patterns::Patterns;
-use crate::starts::Starts;
 use job_limits::MOST_MESSAGES;
+use plan_model::Starts;
 use std::alloc::{AllocError, Global};
 
 // Where the messages of each slot of session s begin, after the `before` messages of earlier sessions.

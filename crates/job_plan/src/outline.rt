@@ -1,12 +1,9 @@
 //! What a plan is made of.
-ghost use Rattle.std.specs.Prelude.{◌≡◌};
-ghost use Rattle.job_plan.specs.Patterns.{input_pattern};
 
-use crate::keeping::keep_carried;
-use crate::pattern::Pattern;
 use job_limits::MOST_SESSIONS;
-use job_session::{SessionPart, SlotKind, Source};
+use job_session::{SessionPart, SlotKind, keep_carried};
 use mpc_ring::Ring;
+use plan_model::Pattern;
 use product_duty::Duty;
 use share_layout::Layout;
 use std::alloc::{AllocError, Global};
@@ -23,8 +20,8 @@ pub(crate) struct Outline {
 
 impl Model for Outline {
     ghost use Rattle.std.specs.Prelude.{◌≡◌};
-    ghost use Rattle.job_plan.specs.Plans.{Plan, plan_of};
-    ghost use Rattle.job_plan.specs.Sound.{IsOutline};
+    ghost use Rattle.plan_model.specs.Plans.{Plan, plan_of};
+    ghost use Rattle.plan_model.specs.Sound.{IsOutline};
 
     ghost Value = { Plan };
 
@@ -36,13 +33,14 @@ impl Model for Outline {
 impl Outline {
     ghost use Rattle.std.specs.Prelude.{◌≡◌, ◌<◌, ◌≤◌, All, IfOk, length};
     ghost use Rattle.secret_sharing.specs.Schemes.{has_pair};
-    ghost use Rattle.job_plan.specs.Plans.{structure, scheme, session, slot, slots, plan_of, is_holder, holder_of};
-    ghost use Rattle.job_plan.specs.Numbers.{is_mask};
+    ghost use Rattle.plan_model.specs.Plans.{structure, scheme, session, slot, slots, plan_of, is_holder, holder_of};
+    ghost use Rattle.plan_model.specs.Numbers.{is_mask};
     ghost use Rattle.session_slots.specs.Sessions.Slot.{At_gate};
-    ghost use Rattle.job_plan.specs.Patterns.{pattern, pattern_at, Occurs};
+    ghost use Rattle.plan_model.specs.Patterns.{pattern, pattern_at, Occurs};
     ghost use Rattle.session_slots.specs.SoundSessions.{IsSoundSession};
-    ghost use Rattle.job_plan.specs.Keeping.{AllFit, keeping_plan};
-    ghost use Rattle.job_plan.specs.Sound.{IsOutline};
+    ghost use Rattle.plan_model.specs.Plans.{keeping_plan};
+    ghost use Rattle.session_slots.specs.Carries.{AllFit};
+    ghost use Rattle.plan_model.specs.Sound.{IsOutline};
 
     pub(crate) fn of(ring: Ring, layout: Layout, duty: Duty, parts: Vec<SessionPart>) -> Outline
         requires structure { duty ≡ layout }
@@ -135,14 +133,6 @@ impl Outline {
         self.part(s).is_prepared()
     }
 
-    /// Whether the masks of all products of session `s` come ahead, where these are prepared.
-    pub(crate) fn ahead(&self, s: u32) -> bool
-        requires { s < length self.now.sessions }
-        ensures { result ≡ (session self.now s).ahead }
-    {
-        self.part(s).is_ahead()
-    }
-
     /// Whether party `p` deals at a product.
     pub(crate) fn multiplies(&self, p: u32) -> bool
         requires { p < self.now.parties }
@@ -187,7 +177,7 @@ impl Outline {
     {
         let part = self.part(s);
         match part.slot_kind(k) {
-            SlotKind::Input(v) => input_pattern(part.source(v)),
+            SlotKind::Input(v) => Pattern::of_input(part.source(v)),
             SlotKind::Gate(t) => self.gate_pattern(s, t),
             SlotKind::Output(o) => Pattern::Opened(part.wire_readers(o)),
             SlotKind::Mask(_, _) => Pattern::HandedOut,
@@ -210,15 +200,5 @@ impl Outline {
         } else {
             Pattern::Multiplied
         }
-    }
-}
-
-// How the messages of an input go.
-fn input_pattern(source: Source) -> Pattern
-    ensures { result ≡ input_pattern source }
-{
-    match source {
-        Source::Given(party) => Pattern::Dealt(party),
-        Source::Earlier { .. } => Pattern::Received,
     }
 }

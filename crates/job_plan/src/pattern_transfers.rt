@@ -3,15 +3,14 @@ ghost use Rattle.std.specs.Prelude.{◌≡◌, ◌<◌, ◌++◌, OnOk, IfOk, le
 ghost use Rattle.list_laws.specs.Lists.{joined, only_if};
 ghost use Rattle.secret_sharing.specs.Schemes.{has_pair};
 ghost use Rattle.party_set.specs.Parties.{has_party};
-ghost use Rattle.job_plan.specs.declared.pattern.Pattern.TheVariants.{Multiplied, Opened, HandedOut, OpenedToAll, Held};
-ghost use Rattle.job_plan.specs.Plans.{scheme};
-ghost use Rattle.job_plan.specs.Patterns.{deal_transfer, deal_transfers, held_transfer, open_transfers, transfers};
+ghost use Rattle.plan_model.specs.declared.pattern.Pattern.TheVariants.{Multiplied, Opened, HandedOut, OpenedToAll, Held};
+ghost use Rattle.plan_model.specs.Plans.{scheme};
+ghost use Rattle.plan_model.specs.Patterns.{deal_transfer, deal_transfers, held_transfer, open_transfers, transfers};
 
 use crate::counts::sends;
 use crate::outline::Outline;
-use crate::pattern::Transfer;
-use crate::transfers::Transfers;
 use party_set::has_party;
+use plan_model::{Transfer, Transfers};
 use std::alloc::{AllocError, Global};
 
 // The transfers of a deal of p.

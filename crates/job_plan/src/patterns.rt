@@ -2,18 +2,17 @@
 ghost use Rattle.std.specs.Prelude.{◌≡◌, ℕ, IfOk, map};
 ghost use Rattle.std.specs.List.{Contains};
 ghost use Rattle.list_laws.specs.Lists.{listed};
-ghost use Rattle.job_plan.specs.Patterns.{deal_transfers, transfers, IsReadBy};
-ghost use Rattle.job_plan.specs.declared.pattern.Pattern.TheVariants.{Opened};
+ghost use Rattle.plan_model.specs.Patterns.{deal_transfers, transfers, IsReadBy};
+ghost use Rattle.plan_model.specs.declared.pattern.Pattern.TheVariants.{Opened};
 
 use crate::outline::Outline;
-use crate::pattern::{Pattern, Transfer};
 use crate::pattern_transfers::{
     dealt_transfers, handed_out_transfers, held_transfers, multiplied_transfers,
     opened_to_all_transfers, opened_transfers,
 };
 use crate::readers::add_readers;
-use crate::transfers::Transfers;
 use mask_list::MaskList;
+use plan_model::{Pattern, Transfer, Transfers};
 use std::alloc::{AllocError, Global};
 
 /// The transfers of each pattern that the slots of a plan may have: of a product, of a mask, of an opening to all, of a
@@ -33,9 +32,9 @@ pub(crate) struct Patterns {
 
 impl Patterns {
     ghost use Rattle.std.specs.Prelude.{◌≡◌, IfOk};
-    ghost use Rattle.job_plan.specs.Plans.{Plan};
-    ghost use Rattle.job_plan.specs.declared.pattern.Pattern.TheVariants.{Opened};
-    ghost use Rattle.job_plan.specs.Patterns.{transfers, Occurs};
+    ghost use Rattle.plan_model.specs.Plans.{Plan};
+    ghost use Rattle.plan_model.specs.declared.pattern.Pattern.TheVariants.{Opened};
+    ghost use Rattle.plan_model.specs.Patterns.{transfers, Occurs};
     ghost use Rattle.job_plan.specs.Tables.{AreTransfers};
 
     pub(crate) fn make(alloc: Global, outline: &Outline) -> Result<Patterns, AllocError>

@@ -1,26 +1,22 @@
 //! Plans, with the tables that number their messages.
 ghost use Rattle.std.specs.Prelude.{◌≡◌, ◌≤◌, IfOk, MatchResult, length};
-ghost use Rattle.job_plan.specs.Plans.{KeepsCarried};
-ghost use Rattle.job_plan.specs.Keeping.{keeping_plan};
-ghost use Rattle.job_plan.specs.Messages.{messages};
-ghost use Rattle.job_plan.specs.Sound.{IsLaid};
+ghost use Rattle.plan_model.specs.Plans.{KeepsCarried, keeping_plan};
+ghost use Rattle.plan_model.specs.Messages.{messages};
+ghost use Rattle.job_plan.specs.Tables.{IsLaid};
 ghost use Rattle.job_plan.specs.Limits.{IsPlanWithin, IsPlanRefusal};
 
 use crate::counts::{deal_count, least_held, message_count, prepared_products, word_count};
-use crate::key::Key;
 use crate::lists::{list_starts, list_words};
 use crate::outline::Outline;
-use crate::pattern::{Pattern, Transfer};
 use crate::patterns::Patterns;
-use crate::ranks::search;
 use crate::readers::add_readers;
-use crate::starts::Starts;
 use job_limits::{MOST_MESSAGES, MOST_SESSIONS, MOST_WORDS};
 use job_session::{RowTable, SessionPart};
 use mask_list::MaskList;
 use mpc_ring::Ring;
 use party_set::MOST_GROUPS;
 use plan_faults::PlanFault;
+use plan_model::{Key, Pattern, Starts, Transfer, search};
 use product_duty::Duty;
 use share_layout::Layout;
 use std::alloc::{AllocError, Global};
@@ -40,8 +36,8 @@ pub struct Plan {
 }
 
 impl Model for Plan {
-    ghost use Rattle.job_plan.specs.Plans as plans;
-    ghost use Rattle.job_plan.specs.Sound.{IsLaid};
+    ghost use Rattle.plan_model.specs.Plans as plans;
+    ghost use Rattle.job_plan.specs.Tables.{IsLaid};
 
     ghost Value = { plans.Plan };
 
@@ -58,16 +54,16 @@ impl Plan {
     ghost use Rattle.job_session.specs.Rows.{IsRows};
     ghost use Rattle.session_slots.specs.KeptWires.{live};
     ghost use Rattle.session_slots.specs.Sessions.{readers};
-    ghost use Rattle.job_plan.specs.Plans.{plan_of, structure, scheme, session, slot, slots, deals_in};
-    ghost use Rattle.job_plan.specs.Plans.{words, place, random_place, least_held};
+    ghost use Rattle.plan_model.specs.Plans.{plan_of, structure, scheme, session, slot, slots, deals_in};
+    ghost use Rattle.plan_model.specs.Plans.{words, place, random_place, least_held};
     ghost use Rattle.secret_sharing.specs.Schemes.{has_pair};
-    ghost use Rattle.job_plan.specs.Messages.{messages, slot_messages};
-    ghost use Rattle.job_plan.specs.Patterns.{named, transfers, pattern_at, Occurs};
-    ghost use Rattle.job_plan.specs.Numbers.{message, number, deals, deals_before, deal_place, deal_slot, is_mask, masks_before, DrawsSummand};
+    ghost use Rattle.plan_model.specs.Messages.{messages, slot_messages};
+    ghost use Rattle.plan_model.specs.Patterns.{named, transfers, pattern_at, Occurs};
+    ghost use Rattle.plan_model.specs.Numbers.{message, number, deals, deals_before, deal_place, deal_slot, is_mask, masks_before, DrawsSummand};
     ghost use Rattle.session_slots.specs.SoundSessions.{IsSoundSession};
-    ghost use Rattle.job_plan.specs.Keeping.{AllFit, keeping};
-    ghost use Rattle.job_plan.specs.Sound.{IsSound};
-    ghost use Rattle.job_plan.specs.Firsts.{first};
+    ghost use Rattle.session_slots.specs.Carries.{AllFit, keeping};
+    ghost use Rattle.plan_model.specs.Sound.{IsSound};
+    ghost use Rattle.plan_model.specs.Firsts.{first};
     ghost use Rattle.job_plan.specs.Limits.{IsPlanWithin, IsPlanRefusal};
 
     /// The plan of these sessions, each of which keeps what those behind it carry from it. It is refused where it has
@@ -370,7 +366,7 @@ impl Plan {
         if products == 0 {
             return 0;
         }
-        if self.outline.ahead(s) {
+        if self.part(s).is_ahead() {
             return least_held(&self.outline, p, self.shares()) * (2 * products);
         }
         let behind = if self.multiplies(p) && deal < products {
@@ -420,7 +416,7 @@ impl Plan {
         ensures sound { IsSound self.now }
     {
         let held = least_held(&self.outline, p, self.shares());
-        if self.outline.ahead(s) {
+        if self.part(s).is_ahead() {
             return self.tape_start(p, s) + k * held;
         }
         let each = 2 * held + self.product_words(p);

@@ -1,7 +1,7 @@
 //! The groups that read the outputs of a session.
 ghost use Rattle.std.specs.Prelude.{◌<◌, ◌++◌, OnOk, length};
 ghost use Rattle.session_slots.specs.Sessions.{readers};
-ghost use Rattle.job_plan.specs.Plans.{session};
+ghost use Rattle.plan_model.specs.Plans.{session};
 ghost use Rattle.mask_list.specs.Masks.{AreMasksOf};
 
 use crate::outline::Outline;

@@ -6,7 +6,7 @@ use Rattle.std.proofs.lemmas.List.Elements.{All-from_recursion, All-take, All-dr
 use Rattle.list_laws.specs.Lists.{total, joined, listed}
 use Rattle.list_laws.proofs.Totals.{total_eq}
 use Rattle.list_laws.proofs.JoinedLists.{length-joined, joined_place, length-listed, listed_at, listed_is, joined_eq, joined_cuts, joined_step, total_within, every_joined, every_listed}
-use Rattle.job_plan.specs.Plans.{Plan, words, place}
+use Rattle.plan_model.specs.Plans.{Plan, words, place}
 use Rattle.share_world.specs.Laws.{AreTapes}
 use Rattle.wire_tables.proofs.ListedRows.{listed_of}
 use Rattle.tape_map.proofs.ChangedPieces.{small_all}

@@ -1,9 +1,9 @@
 -- The worlds of both runs.
 use Rattle.std.proofs.Common.{◌≡◌, ℕ, List, length, map, ap₂, subst}
 use Rattle.std.specs.Global.{Vec}
-use Rattle.job_plan.specs.Plans.{Plan}
-use Rattle.job_plan.specs.InputWords.{session_words}
-use Rattle.job_plan.specs.Sound.{IsSound}
+use Rattle.plan_model.specs.Plans.{Plan}
+use Rattle.plan_model.specs.InputWords.{session_words}
+use Rattle.plan_model.specs.Sound.{IsSound}
 use Rattle.party_file.specs.Table.{PartyForm}
 use Rattle.party_file.specs.Forms.{form_of}
 use Rattle.party_file.specs.declared.data.PartyData.{PartyData}

@@ -1,7 +1,7 @@
 -- One party's data more that fit.
 use Rattle.std.proofs.Common.{◌≡◌, ℕ, List, [], ◌∷◌, ◌++◌, length, inl, inr, sym, ◌∙◌, subst}
 use Rattle.list_laws.proofs.PushedLists.{got_push}
-use Rattle.job_plan.specs.Plans.{Plan}
+use Rattle.plan_model.specs.Plans.{Plan}
 use Rattle.party_file.specs.Forms.{form_of, FitsPlan}
 use Rattle.party_file.specs.declared.data.PartyData.{PartyData}
 use Rattle.job_run.specs.Parties.{AllFit}

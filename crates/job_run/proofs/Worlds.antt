@@ -11,8 +11,8 @@ use Rattle.std.proofs.Math.ListN.{get_or-append}
 use Rattle.std.proofs.Math.Nat.{mul-le-mul_left}
 use Rattle.list_laws.specs.Lists.{joined, listed}
 use Rattle.list_laws.proofs.JoinedLists.{joined_eq, length-listed, listed_at, every_joined}
-use Rattle.job_plan.specs.Plans.{Plan}
-use Rattle.job_plan.specs.InputWords.{AreInputs, given}
+use Rattle.plan_model.specs.Plans.{Plan}
+use Rattle.plan_model.specs.InputWords.{AreInputs, given}
 use Rattle.party_file.specs.Table.{PartyForm}
 use Rattle.party_file.specs.Forms.{FitsPlan, form_of}
 use Rattle.party_file.specs.declared.data.PartyData.{PartyData}

@@ -1,7 +1,7 @@
 -- The two runs of a pair, and the tapes that pieces make.
 use Rattle.std.specs.Prelude.{◌≡◌, ℕ, List, [], length}
-use Rattle.job_plan.specs.Plans.{Plan}
-use Rattle.job_plan.specs.InputWords.{session_words, InputLists}
+use Rattle.plan_model.specs.Plans.{Plan}
+use Rattle.plan_model.specs.InputWords.{session_words, InputLists}
 use Rattle.share_world.specs.Worlds.{World}
 use Rattle.tape_map.specs.TapeMaps.{second_world}
 use Rattle.tape_map.specs.Laws.{CanHide}

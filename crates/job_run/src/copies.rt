@@ -1,7 +1,7 @@
 //! Copies of what the parties of a job give: their inputs, and the words of their tapes.
 ghost use Rattle.std.specs.Prelude.{◌≡◌, IfOk, length, map};
 ghost use Rattle.std.specs.List.{concat};
-ghost use Rattle.job_plan.specs.InputWords.{AreInputs, session_words};
+ghost use Rattle.plan_model.specs.InputWords.{AreInputs, session_words};
 ghost use Rattle.party_file.specs.Forms.{form_of};
 ghost use Rattle.job_run.specs.Parties.{AllFit, world_of};
 

@@ -1,8 +1,8 @@
 //! Tapes that are cut into the pieces of the desks.
 ghost use Rattle.std.specs.Prelude.{◌≡◌, ◌<◌, ◌^◌, All, IfOk, drop, length, take};
-ghost use Rattle.job_plan.specs.InputWords.{session_words};
-ghost use Rattle.job_plan.specs.Plans.{place, words};
-ghost use Rattle.job_plan.specs.Tallies.{tape_length};
+ghost use Rattle.plan_model.specs.InputWords.{session_words};
+ghost use Rattle.plan_model.specs.Plans.{place, words};
+ghost use Rattle.plan_model.specs.Tallies.{tape_length};
 ghost use Rattle.share_world.specs.Laws.{AreTapes};
 ghost use Rattle.desk_laws.specs.Pieces.{ArePieces};
 ghost use Rattle.job_run.specs.Pairs.{tapes_in};

@@ -1,6 +1,6 @@
 //! What the parties of a job give: their inputs, and their tapes.
 ghost use Rattle.std.specs.Prelude.{◌≡◌, IfOk, map};
-ghost use Rattle.job_plan.specs.InputWords.{input_words};
+ghost use Rattle.plan_model.specs.InputWords.{input_words};
 ghost use Rattle.party_file.specs.Forms.{form_of};
 ghost use Rattle.job_run.specs.Pieces.{tape_words};
 

@@ -1,7 +1,7 @@
 //! Both runs of a pair.
 ghost use Rattle.std.specs.Prelude.{◌≡◌, ◌⊎◌, Some, IfOk, IfErr, length, map};
-ghost use Rattle.job_plan.specs.Plans.{structure};
-ghost use Rattle.job_plan.specs.InputWords.{AreInputs};
+ghost use Rattle.plan_model.specs.Plans.{structure};
+ghost use Rattle.plan_model.specs.InputWords.{AreInputs};
 ghost use Rattle.party_file.specs.Forms.{form_of};
 ghost use Rattle.tape_map.specs.MapFaults.{map_fault};
 ghost use Rattle.tape_map.specs.declared.fault.MapFault.TheVariants.{Memory};

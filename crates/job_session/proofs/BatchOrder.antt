@@ -7,7 +7,7 @@ use Rattle.session_slots.specs.Sessions.{Session, session_slots}
 use Rattle.job_session.specs.Batches.{waits_for, waits, batch, is_last}
 use Rattle.job_session.specs.BatchLaws.{AreLongestRuns}
 use Rattle.session_slots.proofs.KeptRows.{some_found}
-use Rattle.job_session.proofs.ScannedSlots.{total_most}
+use Rattle.list_laws.proofs.Totals.{total_most}
 
 pub none_below : (n : ℕ) (f : ℕ → Bool) (j : ℕ) → some_below n f ≡ false → j < n → f j ≡ false
 none_below zero f j e l = absurd (omega arith)

@@ -21,11 +21,9 @@ use Rattle.session_slots.specs.EarlyWires.{completes, slot_completes, is_join, r
 use Rattle.job_session.specs.BatchScans.{stamp, has_join, IsBatchScan, IsGateSlot, AreEarlyReads, IsCompleted, has_stamp}
 use Rattle.session_slots.proofs.SessionSlots.{none_prepared, slot_input, slot_gate, slot_output, slot_kinds}
 use Rattle.session_slots.proofs.RowNames.{wires_named, mask_within, product_named}
-use Rattle.session_slots.proofs.SlotReads.{read_named}
+use Rattle.session_slots.proofs.SlotReads.{read_named, gate_reads, reads_within}
 use Rattle.session_slots.proofs.KeptRows.{one_wire, some_found, some_at}
-use Rattle.session_slots.proofs.SlotReads.{gate_reads}
 use Rattle.job_session.proofs.ScannedSlots.{same_bool}
-use Rattle.session_slots.proofs.SlotReads.{reads_within}
 use Rattle.job_session.proofs.BatchOrder.{batch_within, same_batch, first_same, rising, next_begins, next_joins}
 
 -- ---- what slots complete

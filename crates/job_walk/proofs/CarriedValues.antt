@@ -9,9 +9,9 @@ use Rattle.job_file.specs.declared.owner.JobOwner.{JobOwner}
 use Rattle.job_file.specs.declared.owner.JobOwner.TheVariants as job_owner
 use Rattle.job_file.specs.Owners.{IsOwner}
 use Rattle.session_slots.specs.declared.values.Owner.TheVariants.{Party, Carried}
-use Rattle.job_session.specs.Parts.{AreEarlier, AreOf, CarriesFit}
+use Rattle.job_session.specs.Parts.{AreEarlier, AreOf}
+use Rattle.session_slots.specs.Carries.{CarriesFit, AllFit}
 use Rattle.session_slots.specs.Sessions.{Session, no_session, session_at}
-use Rattle.job_plan.specs.Keeping.{AllFit}
 use Rattle.job_walk.specs.JobOf.{owner_of}
 
 -- a party that gives a value is one of so many

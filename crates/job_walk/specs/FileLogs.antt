@@ -1,7 +1,6 @@
 -- What a log is told of the files of a folder.
-use Rattle.std.specs.Prelude.{ℕ, List, ◌++◌, map, IfSome}
+use Rattle.std.specs.Prelude.{ℕ, List, ◌++◌, map, IfSome, []}
 use Rattle.std.specs.Option.{unwrap_or}
-use Rattle.std.specs.Prelude.{[]}
 use Rattle.outer_io.specs.Files.{Told}
 use Rattle.job_walk.specs.Names.{path_of}
 use Rattle.job_walk.specs.JobOf.{Contents}

@@ -2,10 +2,9 @@
 -- is read.
 use Rattle.std.specs.Prelude.{◌≡◌, ℕ, ◌+◌, nat_le, Bool, if◌then◌else◌, false, List, [], ◌∷◌, ◌++◌, length, map, Option, None, Some, slice_index}
 use Rattle.party_set.specs.Parties.{Structure, Members, IsQ2}
-use Rattle.group_formula.specs.Trees.{Meaning}
+use Rattle.group_formula.specs.Trees.{Meaning, is_tolerated}
 use Rattle.group_formula.specs.Formulas.{IsFormula, IsFault}
 use Rattle.group_formula.specs.declared.fault.FormulaFault.{FormulaFault}
-use Rattle.group_formula.specs.Trees.{is_tolerated}
 use Rattle.maximal_groups.specs.Families.{maximal_structure, is_tolerated_by}
 use Rattle.q2_test.specs.CoveringPairs.{IsFirstCovering}
 use Rattle.circuit_model.specs.Netlists.{Netlist}
@@ -15,8 +14,8 @@ use Rattle.expr_circuit.specs.declared.fault.ExprFault.{ExprFault}
 use Rattle.session_slots.specs.Sessions.{Session}
 use Rattle.session_slots.specs.declared.values.Owner.{Owner}
 use Rattle.session_slots.specs.declared.values.Owner.TheVariants as owner
-use Rattle.job_plan.specs.Plans.{Plan, plan_of}
-use Rattle.job_plan.specs.Keeping.{keeping}
+use Rattle.plan_model.specs.Plans.{Plan, plan_of}
+use Rattle.session_slots.specs.Carries.{keeping}
 use Rattle.job_plan.specs.Limits.{IsPlanWithin, IsPlanRefusal}
 use Rattle.job_session.specs.Parts.{part_fault, session_of}
 use Rattle.plan_faults.specs.declared.part_fault.PartFault.{PartFault}

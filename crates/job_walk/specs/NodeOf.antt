@@ -1,8 +1,8 @@
 -- The node that files stand for, where they tell what they hold: one party of a job, by itself.
 use Rattle.std.specs.Prelude.{ℕ, Bool, true, false, List, [], ◌∷◌, map, Option, None, Some}
 use Rattle.party_names.specs.Names.{party_named}
-use Rattle.job_plan.specs.Plans.{Plan, plan_of}
-use Rattle.job_plan.specs.Keeping.{keeping}
+use Rattle.plan_model.specs.Plans.{Plan, plan_of}
+use Rattle.session_slots.specs.Carries.{keeping}
 use Rattle.job_file.specs.Forms.{JobForm, SessionForm}
 use Rattle.frame_code.specs.declared.framing.FrameForm.{FrameForm}
 use Rattle.frame_code.specs.declared.framing.FrameForm.TheVariants.{Named, Short}

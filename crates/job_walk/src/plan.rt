@@ -2,8 +2,8 @@
 ghost use Rattle.std.specs.Prelude.{◌≡◌, ◌≤◌, false, [], ◌∷◌, All, Ok, IfOk, IfSome, length};
 ghost use Rattle.std.specs.Option.{is_some};
 ghost use Rattle.party_set.specs.Parties.{IsQ2};
-ghost use Rattle.job_plan.specs.Plans.{plan_of, structure};
-ghost use Rattle.job_plan.specs.Keeping.{AllFit, keeping};
+ghost use Rattle.plan_model.specs.Plans.{plan_of, structure};
+ghost use Rattle.session_slots.specs.Carries.{AllFit, keeping};
 ghost use Rattle.session_slots.specs.SoundSessions.{IsSoundSession};
 ghost use Rattle.outer_io.specs.Files.{FilesReading};
 ghost use Rattle.job_file.specs.Jobs.{job_view, IsJob};

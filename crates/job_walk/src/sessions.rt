@@ -2,9 +2,8 @@
 ghost use Rattle.std.specs.Prelude.{◌≡◌, ℕ, ◌<◌, ◌≤◌, [], ◌∷◌, All, IfOk, OnOk, length, map};
 ghost use Rattle.circuit_model.specs.Checks.{Gives};
 ghost use Rattle.circuit_file.specs.CircuitFiles.{circuit_in};
-ghost use Rattle.job_session.specs.Parts.{CarriesFit};
+ghost use Rattle.session_slots.specs.Carries.{CarriesFit, AllFit};
 ghost use Rattle.session_slots.specs.SoundSessions.{IsSoundSession};
-ghost use Rattle.job_plan.specs.Keeping.{AllFit};
 ghost use Rattle.job_file.specs.declared.products.Products.TheVariants.{Direct};
 ghost use Rattle.job_file.specs.Jobs.{job_view, session_view, IsJob, IsSession};
 ghost use Rattle.refusal_text.specs.Lines.{circuit_line, expressions_line, session_line};

@@ -2,9 +2,9 @@
 use Rattle.std.proofs.Common.{◌≡◌, ℕ, ◌<◌, nat_eq, if◌then◌else◌, List, length, sym, ap, ◌∙◌, subst, arith, ⊎_elim}
 use Rattle.std.specs.Prelude.{slice_index, Some, Result}
 use Rattle.std.proofs.lemmas.Bool.{cond-true, cond-false, eq-eqb, ne_eqb}
-use Rattle.job_plan.specs.declared.key.Key.{Key}
-use Rattle.job_plan.specs.Numbers.{message, number}
-use Rattle.job_plan.proofs.DistinctMessages.{number_of_message}
+use Rattle.plan_model.specs.declared.key.Key.{Key}
+use Rattle.plan_model.specs.Numbers.{message, number}
+use Rattle.plan_model.proofs.DistinctMessages.{number_of_message}
 use Rattle.outer_io.specs.Inlet.{InletReading}
 use Rattle.outer_io.specs.Links.{LinksReading}
 use Rattle.node_talk.specs.declared.fault.NodeFault.{NodeFault}

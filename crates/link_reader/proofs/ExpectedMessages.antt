@@ -1,5 +1,5 @@
 -- The messages that a party expects, and where they stand.
-use Rattle.std.proofs.Common.{◌≡◌, ◌≢◌, ℕ, ◌+◌, ◌<◌, ◌≤◌, Bool, true, false, cond, not, nat_eq, ne_eqb, ◌&&◌, List, [], ◌∷◌, ◌++◌, map, set, take, length, refl, sym, ap, ◌∙◌, subst, arith}
+use Rattle.std.proofs.Common.{◌≡◌, ◌≢◌, ℕ, ◌+◌, ◌<◌, ◌≤◌, Bool, true, false, cond, not, nat_eq, ne_eqb, ◌&&◌, List, [], ◌∷◌, ◌++◌, set, take, length, refl, sym, ap, ◌∙◌, subst, arith}
 use Rattle.std.specs.Prelude.{filter, slice_index, slice_index_or}
 use Rattle.std.proofs.lemmas.Bool.{cases_lt, cases_eq, and_from, eq-eqb}
 use Rattle.std.proofs.lemmas.List.{append_assoc, length-take, get_or-append-add, get_or-set_same, get_or-set_other}
@@ -9,22 +9,20 @@ use Rattle.std.proofs.lemmas.List.Elements.{filter-append}
 use Rattle.std.proofs.lemmas.List.Filters.{length-filter_more, length-filter_both}
 use Rattle.list_laws.specs.Lists.{joined}
 use Rattle.list_laws.proofs.JoinedLists.{joined_more}
-use Rattle.job_plan.specs.Plans.{Plan, session, slot, slots}
-use Rattle.job_plan.specs.Sound.{IsSound}
-use Rattle.job_plan.specs.declared.key.Key.{Key}
-use Rattle.job_plan.specs.declared.pattern.Transfer.{Transfer}
-use Rattle.job_plan.specs.Messages.{messages, slot_messages}
-use Rattle.job_plan.specs.Numbers.{message, no_key}
-use Rattle.job_plan.specs.Firsts.{count, first}
-use Rattle.job_plan.specs.Patterns.{named, pattern_at, transfers}
-use Rattle.job_plan.proofs.PlanSchemes.{plan_is}
-use Rattle.job_plan.proofs.Slots.{few_slots}
-use Rattle.job_plan.proofs.DistinctMessages.{every_place}
-use Rattle.job_plan.proofs.RankSearch.{named_at, no_transfer}
-use Rattle.job_plan.proofs.SlotMessages.{message_at, number_within}
-use Rattle.job_plan.proofs.SlotPatterns.{slots_follow_patterns}
-use Rattle.job_plan.proofs.SlotStarts.{pattern_count}
-use Rattle.party_program.specs.Proper.{Proper}
+use Rattle.plan_model.specs.Plans.{Plan, session, slot, slots}
+use Rattle.plan_model.specs.Sound.{IsSound}
+use Rattle.plan_model.specs.declared.key.Key.{Key}
+use Rattle.plan_model.specs.declared.pattern.Transfer.{Transfer}
+use Rattle.plan_model.specs.Messages.{messages}
+use Rattle.plan_model.specs.Numbers.{message, no_key}
+use Rattle.plan_model.specs.Firsts.{count, first}
+use Rattle.plan_model.specs.Patterns.{named, pattern_at, transfers}
+use Rattle.plan_model.proofs.PlanSchemes.{plan_is}
+use Rattle.plan_model.proofs.Slots.{few_slots}
+use Rattle.plan_model.proofs.DistinctMessages.{every_place}
+use Rattle.plan_model.proofs.NamedTransfers.{message_is, message_there}
+use Rattle.plan_model.proofs.RankSearch.{no_transfer}
+use Rattle.program_model.specs.Proper.{Proper}
 use Rattle.program_laws.specs.Once.{IsBetweenParties}
 use Rattle.program_laws.proofs.MessageParties.{between}
 use Rattle.program_laws.proofs.SentMessages.{givers}
@@ -107,34 +105,17 @@ pub filter_behind : (test : Key → Bool) (n : ℕ) (f : ℕ → List Key) (fron
 filter_behind test n f front xs more before is =
     is ∙ ap (λ keys. keys ++ filter test (f n)) before ∙ append_assoc front (filter test (joined n f)) (filter test (f n)) ∙ ap (λ keys. front ++ keys) (filter_more test n f)
 
-module _ (plan : Plan) (s k : ℕ) (xs : List Transfer) (are : xs ≡ transfers plan (pattern_at plan s k)) where
-  -- the messages of a slot are the transfers of its pattern, named
-  pub slot_is : map (named s k) xs ≡ slot_messages plan s k (slot plan s k)
-  slot_is = ap (map (named s k)) are ∙ sym (slots_follow_patterns plan s k (slot plan s k))
-
-  pub count_is : length xs ≡ count plan s k
-  count_is = ap length are ∙ pattern_count plan s k
-
-  module _ (ls : s < length plan.sessions) (lk : k < slots plan s) (i : ℕ) (l : i < length xs) where
-    here : i < count plan s k
-    here = omega (arith, l, count_is)
-
-    message_there : first plan s k + i < length (messages plan)
-    message_there = number_within plan s k ls lk i here
-
-    -- transfer i of a slot is the message of this number
-    pub message_is : (key : Key) → key ≡ named s k (slice_index_or xs i no_transfer) → message plan (first plan s k + i) ≡ key
-    message_is key told = message_at plan s k ls lk i here ∙ ap (λ keys. slice_index_or keys i no_key) (sym slot_is) ∙ named_at s k xs i l ∙ sym told
-
-    -- and a party sends it
-    pub transfer_is : IsSound plan → (key : Key) → key ≡ named s k (slice_index_or xs i no_transfer) → IsSent plan (first plan s k + i) key
-    transfer_is sound key told =
-        let is : message plan (first plan s k + i) ≡ key = message_is key told in
-        record {
-          there = message_there;
-          is = is;
-          sender = subst (λ z. z.sender < plan.parties) is (between_parties plan sound (first plan s k + i) message_there).sender;
-        }
+module _ (plan : Plan) (s k : ℕ) (xs : List Transfer) (are : xs ≡ transfers plan (pattern_at plan s k)) (ls : s < length plan.sessions) (lk : k < slots plan s) (i : ℕ) (l : i < length xs) where
+  -- a party sends transfer i of a slot, which is the message of this number
+  pub transfer_is : IsSound plan → (key : Key) → key ≡ named s k (slice_index_or xs i no_transfer) → IsSent plan (first plan s k + i) key
+  transfer_is sound key told =
+      let is : message plan (first plan s k + i) ≡ key = message_is plan s k xs are ls lk i l key told in
+      let there = message_there plan s k xs are ls lk i l in
+      record {
+        there = there;
+        is = is;
+        sender = subst (λ z. z.sender < plan.parties) is (between_parties plan sound (first plan s k + i) there).sender;
+      }
 
 -- the places of all messages
 pub has_places : (n : Node) (plan : Plan) (me : ℕ) (places counts : List ℕ) → ArePlaced plan me (length (messages plan)) places counts → n.world.plan ≡ plan → n.me ≡ me → HasPlaces n places

@@ -2,8 +2,8 @@
 use Rattle.std.proofs.Common.{◌≡◌, ℕ, ◌<◌, ◌^◌, List, [], ◌∷◌, ◌++◌, length, refl, sym, ap, ◌∙◌, arith, append_assoc, length-append}
 use Rattle.std.specs.Prelude.{slice_index_or}
 use Rattle.std.proofs.lemmas.List.{append-nil}
-use Rattle.job_plan.specs.declared.key.Key.{Key}
-use Rattle.job_plan.specs.Numbers.{no_key}
+use Rattle.plan_model.specs.declared.key.Key.{Key}
+use Rattle.plan_model.specs.Numbers.{no_key}
 use Rattle.list_laws.proofs.JoinedLists.{every_append}
 use Rattle.outer_io.specs.Inlet.{InletReading, ahead}
 use Rattle.outer_io.proofs.FilledPlaces.{ahead-append}

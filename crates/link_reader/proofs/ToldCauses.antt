@@ -1,7 +1,7 @@
 -- Why a reader stopped.
 use Rattle.std.proofs.Common.{◌≡◌, ℕ, ◌<◌, List, ◌++◌, length, take, sym, ap, ◌∙◌, subst, arith, inl, inr, ⊎_elim}
 use Rattle.std.specs.Prelude.{slice_index, slice_index_or}
-use Rattle.job_plan.specs.Numbers.{no_key}
+use Rattle.plan_model.specs.Numbers.{no_key}
 use Rattle.outer_io.specs.Count.{Rose}
 use Rattle.outer_io.specs.Inlet.{InletReading, ahead}
 use Rattle.frame_code.specs.Frames.{hello, shown}

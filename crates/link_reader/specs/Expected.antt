@@ -1,9 +1,9 @@
 -- What a party expects of a peer.
 use Rattle.std.specs.Prelude.{◌≡◌, ℕ, ◌<◌, ◌≤◌, ◌^◌, List, filter, length, take, slice_index, slice_index_or}
-use Rattle.job_plan.specs.declared.key.Key.{Key}
-use Rattle.job_plan.specs.Plans.{Plan}
-use Rattle.job_plan.specs.Numbers.{message, no_key}
-use Rattle.job_plan.specs.Messages.{messages}
+use Rattle.plan_model.specs.declared.key.Key.{Key}
+use Rattle.plan_model.specs.Plans.{Plan}
+use Rattle.plan_model.specs.Numbers.{message, no_key}
+use Rattle.plan_model.specs.Messages.{messages}
 use Rattle.frame_code.specs.declared.framing.FrameForm.{FrameForm}
 use Rattle.frame_code.specs.declared.framing.Framing.{Framing}
 use Rattle.frame_code.specs.Frames.{FitsFrame}

@@ -1,7 +1,7 @@
 -- What the readers of a party tell, one for each of its peers.
 use Rattle.std.specs.Prelude.{◌≡◌, ◌⊎◌, ℕ, ◌<◌, ◌≤◌, List, [], length, slice_index, Some, Result, Ok, Err}
 use Rattle.outer_io.specs.Sink.{added, AddedPrefix}
-use Rattle.job_plan.specs.declared.key.Key.{Key}
+use Rattle.plan_model.specs.declared.key.Key.{Key}
 use Rattle.node_talk.specs.declared.fault.NodeFault.{NodeFault}
 use Rattle.node_talk.specs.Talks.{Node, IsPeer, IsRun, Stays, own_word, said, talk, expected, expected_at}
 use Rattle.node_talk.specs.PeerLinks.{in_from, out_to}

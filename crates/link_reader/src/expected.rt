@@ -1,9 +1,9 @@
 //! The messages that a party expects of its peers, by its plan.
 ghost use Rattle.std.specs.Prelude.{◌≡◌, ◌<◌, ◌+◌, ◌++◌, filter, length, IfOk, OnOk};
-ghost use Rattle.job_plan.specs.Firsts.{first};
-ghost use Rattle.job_plan.specs.Messages.{slot_messages};
-ghost use Rattle.job_plan.specs.Plans.{slot, slots};
-ghost use Rattle.job_plan.specs.Sound.{IsSound};
+ghost use Rattle.plan_model.specs.Firsts.{first};
+ghost use Rattle.plan_model.specs.Messages.{slot_messages};
+ghost use Rattle.plan_model.specs.Plans.{slot, slots};
+ghost use Rattle.plan_model.specs.Sound.{IsSound};
 ghost use Rattle.node_talk.specs.Talks.{Node, goes, messages_between};
 ghost use Rattle.link_reader.specs.Expected.{HasPlaces, ArePlaced};
 

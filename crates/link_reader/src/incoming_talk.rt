@@ -59,7 +59,7 @@ impl IncomingTalk {
           form = form;
         } }
     {
-        let _bits = ring.bits();
+        ring.recall();
         IncomingTalk {
             peer,
             me,

@@ -1,8 +1,8 @@
 -- Sums over the numbers below n.
-use Rattle.std.proofs.Common.{◌≡◌, ℕ, zero, suc, ◌+◌, ◌*◌, ◌<◌, ◌≤◌, ◌≢◌, nat_eq, Bool, if◌then◌else◌, List, length, take, refl, sym, ap, ◌∙◌, subst, arith}
-use Rattle.std.specs.Prelude.{slice_index_or, count_by}
+use Rattle.std.proofs.Common.{◌≡◌, ℕ, zero, suc, ◌+◌, ◌*◌, ◌<◌, ◌≤◌, ◌≢◌, nat_eq, Bool, true, false, if◌then◌else◌, List, length, take, refl, sym, ap, ◌∙◌, subst, arith}
+use Rattle.std.specs.Prelude.{slice_index, slice_index_or, sum, count_by}
 use Rattle.std.proofs.Math.Seq.{take-length}
-use Rattle.std.proofs.lemmas.List.Sums.{count_by_more_yes, count_by_more_no}
+use Rattle.std.proofs.lemmas.List.Sums.{sum_by_more, count_by_more_yes, count_by_more_no}
 use Rattle.std.proofs.lemmas.Bool.{cases_Bool, cases_eq, cond-true, cond-false, eq-eqb, ne_eqb}
 use mathlib.Core.Logic.{inl, inr}
 use Rattle.list_laws.specs.Lists.{total}
@@ -62,6 +62,25 @@ total_pick (suc n) d a l = elim (cases_eq d n) [
 
 pub total_more : (n : ℕ) (f : ℕ → ℕ) → total (n + 1) f ≡ total n f + f n
 total_more n f = let more : n + 1 ≡ suc n = omega arith in ap (λ z. total z f) more
+
+-- a count is no more than what it is of
+one_most : (b : Bool) → (if b then 1 else 0) ≤ 1
+one_most true = omega arith
+one_most false = omega arith
+
+pub total_most : (n : ℕ) (p : ℕ → Bool) → total n (λ w. if p w then 1 else 0) ≤ n
+total_most zero p = omega arith
+total_most (suc n) p = omega (arith, total_most n p, one_most (p n))
+
+-- the items of a list
+items_front : (xs : List ℕ) (n : ℕ) → n ≤ length xs → total n (slice_index xs) ≡ sum (take n xs)
+items_front xs zero l = refl
+items_front xs (suc n) l =
+    let more : n + 1 ≡ suc n = omega arith in
+    omega (arith, items_front xs n (omega arith), sum_by_more (λ x. x) xs n 0 (omega arith), ap (λ z. sum (take z xs)) more)
+
+pub total_items : (xs : List ℕ) → total (length xs) (slice_index xs) ≡ sum xs
+total_items xs = items_front xs (length xs) (omega arith) ∙ ap sum (take-length xs)
 
 -- how many items pass
 count_front : {A : Type 0} (p : A → Bool) (xs : List A) (d : A) (n : ℕ) → n ≤ length xs → total n (λ i. if p (slice_index_or xs i d) then 1 else 0) ≡ count_by p (take n xs)

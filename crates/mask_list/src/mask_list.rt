@@ -27,6 +27,7 @@ impl MaskList {
     ghost use Rattle.std.specs.List.Sorted.{IsStrictlyIncreasing};
     ghost use Rattle.mask_list.specs.Masks.{AreMasksOf};
 
+    /// No masks.
     pub fn new(alloc: Global) -> MaskList
         ensures { result ≡ [] }
     {

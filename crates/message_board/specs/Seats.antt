@@ -1,6 +1,5 @@
 -- What clauses say of a board and its seats.
-use Rattle.std.specs.Prelude.{◌+◌, ◌*◌, ◌/◌, ◌⊎◌, length, ◌≡◌, ℕ, ◌<◌, ◌^◌, List, [], ◌∷◌}
-use Rattle.std.specs.Prelude.{Option, Some, None, IfSome, slice_index, slice_get}
+use Rattle.std.specs.Prelude.{◌+◌, ◌*◌, ◌/◌, ◌⊎◌, length, ◌≡◌, ℕ, ◌<◌, ◌^◌, List, [], ◌∷◌, Option, Some, None, IfSome, slice_index, slice_get}
 use base.Stored.{Coded, coded×, coded_ℕ, coded_list, coded_via}
 use Rattle.std.specs.Coded.{coded_option}
 use Rattle.atomic_table.specs.Seated.{TableId, table_id_coded}

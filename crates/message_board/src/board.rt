@@ -2,8 +2,7 @@
 //! share: a post is a store of the value and then one bit-or of the full word, and a take is one load of the full word
 //! and, where the flag is 1, one of the value. A slot's turn word says whether its item is at home. No step waits for
 //! another thread: a bit-or goes round again only where another thread has changed the full word in between.
-ghost use Rattle.std.specs.Prelude.{◌≡◌, ℕ, ◌+◌, ◌*◌, ◌/◌, ◌⊎◌, ◌<◌, ◌≤◌, ◌^◌, [], ◌∷◌, length, slice_get, Some};
-ghost use Rattle.std.specs.Prelude.{IfSome, IfNone, IfOk, IfErr, vec_len, vec_capacity};
+ghost use Rattle.std.specs.Prelude.{◌≡◌, ℕ, ◌+◌, ◌*◌, ◌/◌, ◌⊎◌, ◌<◌, ◌≤◌, ◌^◌, [], ◌∷◌, length, slice_get, Some, IfSome, IfNone, IfOk, IfErr, vec_len, vec_capacity};
 ghost use Rattle.message_board.specs.Words.{posted_as};
 
 use crate::cells::Posted;

@@ -1,6 +1,5 @@
 //! What a board is made of.
-ghost use Rattle.std.specs.Prelude.{◌≡◌, ◌+◌, ◌*◌, ◌<◌, ◌≤◌, ◌^◌, [], ◌++◌, replicate, length, None, IfOk};
-ghost use Rattle.std.specs.Prelude.{vec_len, vec_capacity};
+ghost use Rattle.std.specs.Prelude.{◌≡◌, ◌+◌, ◌*◌, ◌<◌, ◌≤◌, ◌^◌, [], ◌++◌, replicate, length, None, IfOk, vec_len, vec_capacity};
 ghost use Rattle.message_board.specs.Words.{apart, cell_words, held, spaced};
 
 use crate::board::BoardSeat;

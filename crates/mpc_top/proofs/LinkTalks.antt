@@ -6,9 +6,9 @@ use Rattle.outer_io.specs.Jobs.{SpawnerReading}
 use Rattle.outer_io.specs.Links.{LinksReading}
 use Rattle.outer_io.specs.Sink.{SinkReading, Writes}
 use Rattle.outer_io.specs.declared.sink.Failed.{Failed}
-use Rattle.job_plan.specs.Plans.{Plan}
-use Rattle.job_plan.specs.Messages.{messages}
-use Rattle.job_plan.specs.declared.key.Key.{Key}
+use Rattle.plan_model.specs.Plans.{Plan}
+use Rattle.plan_model.specs.Messages.{messages}
+use Rattle.plan_model.specs.declared.key.Key.{Key}
 use Rattle.node_talk.specs.declared.fault.NodeFault.{NodeFault}
 use Rattle.node_talk.specs.Runs.{Results, IsDone, TalkedThrough}
 use Rattle.node_talk.specs.Talks.{Node}

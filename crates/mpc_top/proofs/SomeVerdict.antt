@@ -12,10 +12,10 @@ use Rattle.expr_circuit.proofs.OneAnswer.{one_answer as one_program_only}
 use Rattle.q2_test.specs.CoveringPairs.{IsFirstCovering}
 use Rattle.q2_test.proofs.Orders.{q2_from}
 use Rattle.session_slots.specs.Sessions.{Session}
-use Rattle.job_plan.specs.Plans.{Plan}
-use Rattle.job_plan.specs.Messages.{messages}
-use Rattle.job_plan.specs.Tallies.{tape_length}
-use Rattle.job_plan.specs.declared.key.Key.{Key}
+use Rattle.plan_model.specs.Plans.{Plan}
+use Rattle.plan_model.specs.Messages.{messages}
+use Rattle.plan_model.specs.Tallies.{tape_length}
+use Rattle.plan_model.specs.declared.key.Key.{Key}
 use Rattle.plan_faults.specs.declared.plan_fault.PlanFault.TheVariants.{TooManyMessages, TooManyWords}
 use Rattle.job_file.specs.Forms.{JobForm, SessionForm, AdversaryForm, by_formula, by_list}
 use Rattle.job_file.specs.declared.layout.SessionLayout.{SessionLayout}

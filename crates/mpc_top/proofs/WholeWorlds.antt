@@ -32,18 +32,17 @@ use Rattle.plan_faults.specs.Counts.{counts_fault}
 use Rattle.session_slots.specs.Sessions.{Session, no_session, session_at}
 use Rattle.session_slots.specs.declared.values.OutputValue.{OutputValue}
 use Rattle.session_slots.specs.declared.values.Owner.{Owner}
-use Rattle.session_slots.specs.Carries.{kept_from}
-use Rattle.job_session.specs.Parts.{CarriesFit, carries_fault, session_of, part_fault, output_values}
+use Rattle.session_slots.specs.Carries.{kept_from, CarriesFit, AllFit, keeping}
+use Rattle.job_session.specs.Parts.{carries_fault, session_of, part_fault, output_values}
 use Rattle.session_slots.specs.SoundSessions.{IsSoundSession, IsWired}
-use Rattle.job_session.proofs.Carries.{carries_fit}
+use Rattle.job_session.proofs.CarriedValues.{carries_fit}
 use Rattle.job_session.proofs.CircuitSessions.{sound_session, sound_with, counts_agree}
-use Rattle.job_plan.specs.Plans.{Plan, plan_of, words}
-use Rattle.job_plan.specs.Keeping.{AllFit, keeping}
-use Rattle.job_plan.proofs.KeptSessions.{are_kept, carries_earlier, keeping_at, keeping_fits, keeps_carried, length_keeping}
-use Rattle.job_plan.specs.Sound.{IsSound}
+use Rattle.plan_model.specs.Plans.{Plan, plan_of, words}
+use Rattle.session_slots.proofs.KeptSessions.{are_kept, carries_earlier, keeping_at, keeping_fits, keeps_carried, length_keeping}
+use Rattle.plan_model.specs.Sound.{IsSound}
 use Rattle.job_plan.specs.Limits.{IsPlanWithin}
-use Rattle.job_plan.specs.InputWords.{AreInputs, given}
-use Rattle.job_plan.specs.Tallies.{tape_length}
+use Rattle.plan_model.specs.InputWords.{AreInputs, given}
+use Rattle.plan_model.specs.Tallies.{tape_length}
 use Rattle.job_file.specs.Forms.{JobForm, SessionForm, AdversaryForm, by_formula, by_list}
 use Rattle.job_file.specs.Faults.{job_in}
 use Rattle.job_file.specs.declared.layout.SessionLayout.{SessionLayout}

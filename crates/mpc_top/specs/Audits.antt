@@ -1,6 +1,6 @@
 -- What an audit of a folder comes to: its written view against the world of its job.
 use Rattle.std.specs.Prelude.{◌≡◌, ℕ, List, None, Err}
-use Rattle.job_plan.specs.declared.key.Key.{Key}
+use Rattle.plan_model.specs.declared.key.Key.{Key}
 use Rattle.share_world.specs.Worlds.{view}
 use Rattle.view_check.specs.declared.fault.CheckFault.{CheckFault}
 use Rattle.view_check.specs.declared.fault.CheckFault.TheVariants.{WrongWord}

@@ -4,8 +4,8 @@ use Rattle.outer_io.specs.Files.{Told}
 use Rattle.command_words.specs.Commands.{CommandForm, run, check, pair, node, sample, audit}
 use Rattle.party_set.specs.Parties.{Members}
 use Rattle.maximal_groups.specs.Families.{LiesWithin}
-use Rattle.job_plan.specs.Plans.{structure}
-use Rattle.job_plan.specs.InputWords.{AreInputs, InputLists}
+use Rattle.plan_model.specs.Plans.{structure}
+use Rattle.plan_model.specs.InputWords.{AreInputs, InputLists}
 use Rattle.share_world.specs.Worlds.{World, view}
 use Rattle.tape_map.specs.TapeMaps.{second_world}
 use Rattle.tape_map.specs.Laws.{Agree, CanHide}

@@ -3,8 +3,8 @@ use Rattle.std.specs.Prelude.{◌≡◌, ℕ, Bool, List, length, Result, Ok, Er
 use Rattle.outer_io.specs.Jobs.{SpawnerReading}
 use Rattle.outer_io.specs.Links.{LinksReading, NetReading}
 use Rattle.outer_io.specs.Sink.{SinkReading, Writes, FailsToWrite}
-use Rattle.job_plan.specs.Plans.{Plan}
-use Rattle.job_plan.specs.Messages.{messages}
+use Rattle.plan_model.specs.Plans.{Plan}
+use Rattle.plan_model.specs.Messages.{messages}
 use Rattle.node_talk.specs.declared.fault.NodeFault.{NodeFault}
 use Rattle.node_talk.specs.Runs.{Results}
 use Rattle.node_talk.specs.Talks.{Node}

@@ -1,6 +1,6 @@
 -- What the talk of a node with the other parties comes to.
 use Rattle.std.specs.Prelude.{◌≡◌, ℕ, ◌-◌, ◌<◌, ◌≤◌, IsTrue, List, length, Result, Some}
-use Rattle.job_plan.specs.declared.key.Key.{Key}
+use Rattle.plan_model.specs.declared.key.Key.{Key}
 use Rattle.outer_io.specs.Count.{Rose, last_count}
 use Rattle.outer_io.specs.Links.{LinksReading, HasPeers, Meeting, are_fresh, are_steady}
 use Rattle.node_talk.specs.declared.fault.NodeFault.{NodeFault}

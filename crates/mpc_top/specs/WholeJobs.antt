@@ -2,7 +2,7 @@
 -- and other inputs.
 use Rattle.std.specs.Prelude.{ℕ, List, [], Option, None, Some}
 use Rattle.party_set.specs.Parties.{Members}
-use Rattle.job_plan.specs.Plans.{Plan}
+use Rattle.plan_model.specs.Plans.{Plan}
 use Rattle.party_file.specs.Table.{PartyForm}
 use Rattle.other_file.specs.Table.{other_in}
 use Rattle.share_world.specs.Worlds.{World}
@@ -13,7 +13,7 @@ use Rattle.refusal_text.specs.Lines.{other_line, pair_line}
 use Rattle.job_walk.specs.Names as file_names
 use Rattle.job_walk.specs.Verdict.{Verdict, accepted, Ends, Then, verdict_of, unless}
 use Rattle.job_walk.specs.JobOf.{Contents, Planned, file_at, PlanAt, PartiesAfter}
-use Rattle.job_plan.specs.InputWords.{InputLists}
+use Rattle.plan_model.specs.InputWords.{InputLists}
 
 -- the names of the parties, the group that is asked for, and the world
 pub record WholeJob : Type 0 where

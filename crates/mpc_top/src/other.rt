@@ -1,6 +1,6 @@
 //! The file of other inputs.
 ghost use Rattle.std.specs.Prelude.{◌≡◌, [], ◌∷◌, IfOk, length};
-ghost use Rattle.job_plan.specs.InputWords.{AreInputs};
+ghost use Rattle.plan_model.specs.InputWords.{AreInputs};
 ghost use Rattle.other_file.specs.Table.{other_in};
 ghost use Rattle.refusal_text.specs.Lines.{other_line};
 ghost use Rattle.job_walk.specs.Names.{other_file};

@@ -2,8 +2,8 @@
 ghost use Rattle.std.specs.Prelude.{◌≡◌, true, ℕ, List, Some, Ok, IfOk, IfSome, length, map};
 ghost use Rattle.std.specs.Option.{is_some};
 ghost use Rattle.party_file.specs.Forms.{form_of};
-ghost use Rattle.job_plan.specs.InputWords.{AreInputs};
-ghost use Rattle.job_plan.specs.Plans.{structure};
+ghost use Rattle.plan_model.specs.InputWords.{AreInputs};
+ghost use Rattle.plan_model.specs.Plans.{structure};
 ghost use Rattle.job_run.specs.Parties.{AllFit, world_of};
 ghost use Rattle.job_run.specs.Pairs.{IsPair};
 ghost use Rattle.command_words.specs.Commands.{pair};

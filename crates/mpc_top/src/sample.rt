@@ -2,7 +2,7 @@
 ghost use Rattle.std.specs.Prelude.{◌≡◌, ◌<◌, ◌≤◌, Some, IfOk};
 ghost use Rattle.outer_io.specs.Files.{FilesReading};
 ghost use Rattle.command_words.specs.Commands.{sample};
-ghost use Rattle.job_plan.specs.InputWords.{AreInputs};
+ghost use Rattle.plan_model.specs.InputWords.{AreInputs};
 ghost use Rattle.desk_laws.specs.Pieces.{ArePieces};
 ghost use Rattle.sample_maker.specs.Samples.{sample_names, sample_plan, sample_inputs, sample_pieces};
 ghost use Rattle.mpc_top.specs.Outcomes.{RunsAlone};

@@ -3,19 +3,19 @@ use Rattle.std.proofs.Common.{◌≡◌, ◌≢◌, ℕ, zero, suc, ◌+◌, ◌
 use Rattle.std.specs.Prelude.{slice_index_or, Some}
 use Rattle.std.specs.List.{AllByRecursion}
 use Rattle.std.proofs.lemmas.Bool.{cases_eq, cases_lt}
-use Rattle.std.proofs.lemmas.List.{take-append-drop, length-take-le}
+use Rattle.std.proofs.lemmas.List.{take-append-drop, length-take-le, get_or_past}
 use Rattle.std.proofs.Math.ListN.{get_or-append}
 use mathlib.Core.Logic.{inl as left', inr as right'}
-use Rattle.job_plan.specs.Plans.{Plan, IsPlan}
-use Rattle.job_plan.specs.declared.key.Key.{Key}
-use Rattle.job_plan.specs.Messages.{messages}
-use Rattle.job_plan.specs.Numbers.{message, no_key, number}
-use Rattle.job_plan.proofs.DistinctMessages.{every_place, number_of_message}
+use Rattle.plan_model.specs.Plans.{Plan, IsPlan}
+use Rattle.plan_model.specs.declared.key.Key.{Key}
+use Rattle.plan_model.specs.Messages.{messages}
+use Rattle.plan_model.specs.Numbers.{message, no_key, number}
+use Rattle.plan_model.proofs.DistinctMessages.{every_place, number_of_message}
 use Rattle.share_world.specs.Worlds.{World, word}
 use Rattle.share_world.specs.Locals.{local_word}
 use Rattle.share_world.proofs.SmallWords.{small_word, is_plan}
-use Rattle.party_program.specs.declared.program.Instruction.TheVariants.{Post, Take, End}
-use Rattle.party_program.specs.Programs.{program, at}
+use Rattle.program_model.specs.declared.instruction.Instruction.TheVariants.{Post, Take, End}
+use Rattle.program_model.specs.Programs.{program, at}
 use Rattle.program_laws.specs.Parts.{IsPart}
 use Rattle.program_laws.proofs.OncePosted.{once}
 use Rattle.program_laws.proofs.PartLaws.{part_of}
@@ -23,7 +23,6 @@ use Rattle.program_laws.proofs.RightWords.{IsBefore}
 use Rattle.program_laws.specs.Once.{take_slot}
 use Rattle.program_laws.proofs.Ranks.{batches_post_first}
 use Rattle.network_laws.proofs.EarlierTakes.{posts_world}
-use Rattle.std.proofs.lemmas.List.{get_or_past}
 use Rattle.outer_io.specs.Sink.{added, AddedPrefix}
 use Rattle.frame_code.specs.declared.framing.Framing.{Framing}
 use Rattle.frame_code.specs.Frames.{hello, frame, frame_bytes}

@@ -1,15 +1,15 @@
 -- What a party posts is the world's, where what it took before is.
 use Rattle.std.proofs.Common.{◌≡◌, ℕ, ◌<◌, length, sym, ap, ◌∙◌}
-use Rattle.job_plan.specs.declared.key.Key.{Key}
-use Rattle.job_plan.specs.Numbers.{message}
+use Rattle.plan_model.specs.declared.key.Key.{Key}
+use Rattle.plan_model.specs.Numbers.{message}
 use Rattle.share_world.specs.Worlds.{World, word}
 use Rattle.share_world.specs.Locals.{local_word}
 use Rattle.share_world.specs.Laws.{IsWhole}
 use Rattle.share_world.proofs.SmallWords.{small_words}
-use Rattle.party_program.specs.declared.program.Instruction.TheVariants.{Post, Take}
-use Rattle.party_program.specs.Programs.{program, at}
-use Rattle.party_program.specs.States.{slot_of, posted}
-use Rattle.party_program.proofs.StateReads.{state_same}
+use Rattle.program_model.specs.declared.instruction.Instruction.TheVariants.{Post, Take}
+use Rattle.program_model.specs.Programs.{program, at}
+use Rattle.program_model.specs.States.{slot_of, posted}
+use Rattle.program_model.proofs.StateReads.{state_same}
 use Rattle.program_laws.specs.Meets.{local_given}
 use Rattle.program_laws.proofs.LawfulWorlds.{lawful}
 use Rattle.program_laws.proofs.OpenedOutputs.{goes}

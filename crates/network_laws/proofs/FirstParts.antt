@@ -9,12 +9,12 @@ use Rattle.std.proofs.lemmas.Nat.{mul-le}
 use mathlib.Core.Logic.{inl as left', inr as right'}
 use Rattle.list_laws.specs.Lists.{joined}
 use Rattle.list_laws.proofs.JoinedLists.{every_append, every_joined, every_only_if}
-use Rattle.job_plan.specs.Plans.{Plan}
-use Rattle.job_plan.specs.declared.key.Key.{Key}
-use Rattle.job_plan.specs.Numbers.{message, no_key}
-use Rattle.party_program.specs.declared.program.Instruction.{Instruction}
-use Rattle.party_program.specs.declared.program.Instruction.TheVariants.{Post, End}
-use Rattle.party_program.specs.Programs.{program, at, to}
+use Rattle.plan_model.specs.Plans.{Plan}
+use Rattle.plan_model.specs.declared.key.Key.{Key}
+use Rattle.plan_model.specs.Numbers.{message, no_key}
+use Rattle.program_model.specs.declared.instruction.Instruction.{Instruction}
+use Rattle.program_model.specs.declared.instruction.Instruction.TheVariants.{Post, End}
+use Rattle.program_model.specs.Programs.{program, at, to}
 use Rattle.frame_code.specs.declared.framing.Framing.{Framing}
 use Rattle.frame_code.specs.Frames.{frame, frame_bytes}
 use Rattle.frame_code.proofs.ReadFrames.{length-frame}

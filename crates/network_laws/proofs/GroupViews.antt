@@ -6,9 +6,9 @@ use Rattle.std.proofs.lemmas.List.{take-append-drop}
 use Rattle.std.proofs.lemmas.Bool.{cases_Bool, cond-true, cond-false, and_parts, eqb-true, or_left, or_right}
 use mathlib.Core.Logic.{inl, inr}
 use Rattle.party_set.specs.Parties.{has_party}
-use Rattle.job_plan.specs.declared.key.Key.{Key}
-use Rattle.job_plan.specs.Messages.{messages}
-use Rattle.job_plan.specs.Numbers.{no_key}
+use Rattle.plan_model.specs.declared.key.Key.{Key}
+use Rattle.plan_model.specs.Messages.{messages}
+use Rattle.plan_model.specs.Numbers.{no_key}
 use Rattle.share_world.specs.Worlds.{word, view}
 use Rattle.outer_io.specs.Inlet.{ahead}
 use Rattle.outer_io.specs.Sink.{added, AddedPrefix}

@@ -2,7 +2,7 @@
 use Rattle.std.specs.Prelude.{◌≡◌, ◌≢◌, ℕ, ◌<◌, true, List, ◌++◌, filter, Some}
 use Rattle.std.specs.List.{flat_map}
 use Rattle.party_set.specs.Parties.{has_party}
-use Rattle.job_plan.specs.declared.key.Key.{Key}
+use Rattle.plan_model.specs.declared.key.Key.{Key}
 use Rattle.share_world.specs.Worlds.{view}
 use Rattle.outer_io.specs.Inlet.{ahead}
 use Rattle.outer_io.specs.Sink.{added, AddedPrefix}

@@ -1,7 +1,7 @@
 -- The runs of all parties make a network.
 use Rattle.std.proofs.Common.{ℕ, ◌<◌, ◌⊎◌, Result, Ok, Err, inl, inr, refl}
 use Rattle.std.specs.Prelude.{IfOk, IfErr, IsOk}
-use Rattle.job_plan.specs.declared.key.Key.{Key}
+use Rattle.plan_model.specs.declared.key.Key.{Key}
 use Rattle.outer_io.specs.Links.{LinksReading}
 use Rattle.node_talk.specs.declared.fault.NodeFault.{NodeFault}
 use Rattle.node_talk.specs.Talks.{Node}

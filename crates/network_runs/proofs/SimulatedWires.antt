@@ -7,8 +7,8 @@ use Rattle.std.proofs.lemmas.Bool.Decides.{eqb_tells}
 use Rattle.list_laws.specs.Lists.{only_if}
 use Rattle.list_laws.proofs.JoinedLists.{joined_eq}
 use Rattle.party_set.specs.Parties.{has_party}
-use Rattle.job_plan.specs.declared.key.Key.{Key}
-use Rattle.job_plan.specs.Plans.{Plan}
+use Rattle.plan_model.specs.declared.key.Key.{Key}
+use Rattle.plan_model.specs.Plans.{Plan}
 use Rattle.share_world.specs.Worlds.{World, view, word}
 use Rattle.tape_map.specs.TapeMaps.{with_tapes}
 use Rattle.view_counts.specs.Counts.{choices}

@@ -9,9 +9,9 @@ use Rattle.std.proofs.lemmas.List.{append-nil, get_or_past}
 use Rattle.list_laws.specs.Lists.{listed}
 use Rattle.list_laws.proofs.JoinedLists.{length-listed, listed_at}
 use Rattle.session_slots.specs.Sessions.{output_wire, readers}
-use Rattle.job_plan.specs.Plans.{reads, session}
-use Rattle.job_plan.specs.Messages.{messages}
-use Rattle.job_plan.specs.Numbers.{message, no_key}
+use Rattle.plan_model.specs.Plans.{reads, session}
+use Rattle.plan_model.specs.Messages.{messages}
+use Rattle.plan_model.specs.Numbers.{message, no_key}
 use Rattle.share_world.specs.Worlds.{World, plain, word}
 use Rattle.share_world.specs.Laws.{IsWhole}
 use Rattle.share_world.proofs.SentWords.{opened_are_plain}

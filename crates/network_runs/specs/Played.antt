@@ -2,9 +2,9 @@
 use Rattle.std.specs.Prelude.{◌≡◌, ◌≢◌, ℕ, ◌-◌, ◌<◌, nat_eq, ◌||◌, true, false, if◌then◌else◌, List, [], length, None, Some, Result, Ok, Err, IsOk}
 use Rattle.list_laws.specs.Lists.{listed}
 use Rattle.session_slots.specs.Sessions.{readers, output_wire}
-use Rattle.job_plan.specs.Plans.{session, reads}
-use Rattle.job_plan.specs.Messages.{messages}
-use Rattle.job_plan.specs.Numbers.{message}
+use Rattle.plan_model.specs.Plans.{session, reads}
+use Rattle.plan_model.specs.Messages.{messages}
+use Rattle.plan_model.specs.Numbers.{message}
 use Rattle.share_world.specs.Worlds.{World, plain, word}
 use Rattle.share_world.specs.Laws.{IsWhole}
 use Rattle.frame_code.specs.declared.framing.FrameForm.{FrameForm}

@@ -11,8 +11,8 @@ use Rattle.message_board.proofs.CellPosts.{cell_set_same, put_is, put_length, pu
 use Rattle.inbox_board.specs.declared.steps.InboxView.{InboxView}
 use Rattle.inbox_board.specs.Rule.{notes, total_after}
 use Rattle.inbox_board.specs.Seats.{Looks, mark_as}
-use Rattle.job_plan.specs.Messages.{messages}
-use Rattle.job_plan.specs.Numbers.{message}
+use Rattle.plan_model.specs.Messages.{messages}
+use Rattle.plan_model.specs.Numbers.{message}
 use Rattle.outer_io.specs.Outlet.{OutletReading, Sends, Flushes}
 use Rattle.outer_io.specs.Sink.{Writes}
 use Rattle.outer_io.specs.declared.sink.Failed.{Failed}

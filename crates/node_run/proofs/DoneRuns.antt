@@ -7,22 +7,22 @@ use Rattle.std.proofs.lemmas.List.{get_or_past}
 use Rattle.std.proofs.lemmas.Option.{slice_get-get_or}
 use Rattle.std.proofs.Math.ListN.{length-map}
 use mathlib.Core.Logic.{inl, inr}
-use Rattle.job_plan.specs.declared.key.Key.{Key}
-use Rattle.job_plan.specs.Messages.{messages}
-use Rattle.job_plan.specs.Numbers.{message}
+use Rattle.plan_model.specs.declared.key.Key.{Key}
+use Rattle.plan_model.specs.Messages.{messages}
+use Rattle.plan_model.specs.Numbers.{message}
 use Rattle.message_board.specs.Plain.{plain_cell}
-use Rattle.party_program.specs.declared.program.Instruction.{Instruction}
-use Rattle.party_program.specs.declared.program.Instruction.TheVariants.{Post, Take, End}
-use Rattle.party_program.specs.Programs.{program, at}
-use Rattle.party_program.specs.States.{new_state, state}
-use Rattle.party_program.proofs.InstructionLists.{state_is, run_all}
+use Rattle.program_model.specs.declared.instruction.Instruction.{Instruction}
+use Rattle.program_model.specs.declared.instruction.Instruction.TheVariants.{Post, Take, End}
+use Rattle.program_model.specs.Programs.{program, at}
+use Rattle.program_model.specs.States.{new_state, state}
+use Rattle.program_model.proofs.InstructionLists.{state_is, run_all}
 use Rattle.party_desk.specs.declared.desk.Desk.{Desk}
 use Rattle.party_desk.specs.Desks.{IsDesk, output_at}
 use Rattle.program_laws.specs.Meets.{local_given}
 use Rattle.program_laws.specs.Parts.{IsPart}
 use Rattle.program_laws.proofs.LocalPrograms.{met}
 use Rattle.program_laws.specs.Once.{take_session}
-use Rattle.job_plan.specs.Plans.{Plan, IsPlan}
+use Rattle.plan_model.specs.Plans.{Plan, IsPlan}
 use Rattle.program_laws.proofs.TakenMessages.{taken_there}
 use Rattle.program_laws.proofs.SentMessages.{there}
 use Rattle.program_laws.proofs.OncePosted.{once}

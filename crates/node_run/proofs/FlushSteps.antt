@@ -4,7 +4,7 @@ use Rattle.std.specs.Prelude.{IsTrue, OnOk, slice_index_or}
 use Rattle.std.proofs.lemmas.Bool.{cases_eq}
 use Rattle.std.proofs.lemmas.Bool.Decides.{nat_tests}
 use mathlib.Core.Logic.{inl, inr}
-use Rattle.job_plan.specs.declared.key.Key.{Key}
+use Rattle.plan_model.specs.declared.key.Key.{Key}
 use Rattle.message_board.specs.Plain.{plain_cell}
 use Rattle.party_desk.specs.declared.desk.Desk.{Desk}
 use Rattle.outer_io.specs.Count.{Rose}
@@ -17,7 +17,7 @@ use Rattle.outer_io.proofs.WrittenPieces.{added-nil}
 use Rattle.node_talk.specs.Talks.{Node, IsPeer, own_word, said}
 use Rattle.node_talk.specs.PeerLinks.{no_outlet, out_to}
 use Rattle.node_talk.specs.Runs.{GoesOut}
-use Rattle.job_plan.specs.Numbers.{message}
+use Rattle.plan_model.specs.Numbers.{message}
 use Rattle.node_run.specs.Mail.{Mail, IsMail, NeverComes, NothingWaits, SentTo, FlushedTo, failed_after, link_to, outlet_to}
 use Rattle.node_run.specs.Progress.{Begin, Agrees, HasTaken, HasPosted, KeepsOwn, IsOf, Going, KeepsRoom, OutletStays, StopsBy, Halted, InSession, InOrder, FlushedBelow, FlushFailed, AllGreeted, Ungreeted, Greeted, said_bytes}
 use Rattle.node_run.specs.Remains.{party_at}

@@ -4,7 +4,7 @@ use Rattle.std.specs.Option.{is_some}
 use Rattle.std.proofs.lemmas.Bool.{cases_eq, cases_lt}
 use Rattle.std.proofs.lemmas.List.{append-nil}
 use mathlib.Core.Logic.{inl, inr}
-use Rattle.job_plan.specs.declared.key.Key.{Key}
+use Rattle.plan_model.specs.declared.key.Key.{Key}
 use Rattle.message_board.specs.Plain.{plain_cell}
 use Rattle.outer_io.specs.Count.{Rose}
 use Rattle.outer_io.specs.Sink.{Writes, added, AddedPrefix}

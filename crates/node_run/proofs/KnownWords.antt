@@ -3,13 +3,13 @@ use Rattle.std.proofs.Common.{◌≡◌, ◌≢◌, ℕ, zero, suc, ◌<◌, Lis
 use Rattle.std.specs.Option.{is_some}
 use Rattle.std.proofs.lemmas.Bool.{cases_eq}
 use mathlib.Core.Logic.{inl, inr}
-use Rattle.job_plan.specs.declared.key.Key.{Key}
-use Rattle.job_plan.specs.Messages.{messages}
-use Rattle.job_plan.specs.Numbers.{number}
-use Rattle.job_plan.proofs.DistinctMessages.{numbers_are_inverse}
+use Rattle.plan_model.specs.declared.key.Key.{Key}
+use Rattle.plan_model.specs.Messages.{messages}
+use Rattle.plan_model.specs.Numbers.{number}
+use Rattle.plan_model.proofs.DistinctMessages.{numbers_are_inverse}
 use Rattle.message_board.specs.Plain.{plain_cell}
-use Rattle.party_program.specs.declared.program.Instruction.TheVariants.{Post, Take}
-use Rattle.party_program.specs.Programs.{at}
+use Rattle.program_model.specs.declared.instruction.Instruction.TheVariants.{Post, Take}
+use Rattle.program_model.specs.Programs.{at}
 use Rattle.node_talk.specs.Talks.{Node, acts}
 use Rattle.node_run.specs.Progress.{Agrees, HasTaken, HasPosted}
 

@@ -12,15 +12,15 @@ use mathlib.Core.Logic.{inl, inr}
 use Rattle.list_laws.specs.Lists.{total, joined, listed}
 use Rattle.list_laws.proofs.Totals.{total_eq}
 use Rattle.list_laws.proofs.JoinedLists.{length-joined, length-listed, listed_at, total_within, every_joined, every_at}
-use Rattle.job_plan.specs.declared.key.Key.{Key}
-use Rattle.job_plan.specs.Plans.{Plan, words, place, input_count}
-use Rattle.job_plan.specs.Sound.{IsSound}
-use Rattle.job_plan.specs.Numbers.{message}
-use Rattle.job_plan.specs.InputWords.{AreInputs}
-use Rattle.job_plan.specs.Tallies.{tape_length}
+use Rattle.plan_model.specs.declared.key.Key.{Key}
+use Rattle.plan_model.specs.Plans.{Plan, words, place, input_count}
+use Rattle.plan_model.specs.Sound.{IsSound}
+use Rattle.plan_model.specs.Numbers.{message}
+use Rattle.plan_model.specs.InputWords.{AreInputs}
+use Rattle.plan_model.specs.Tallies.{tape_length}
 use Rattle.share_world.specs.Worlds.{World}
 use Rattle.share_world.specs.Laws.{IsWhole, AreTapes}
-use Rattle.party_program.specs.States.{Given}
+use Rattle.program_model.specs.States.{Given}
 use Rattle.program_laws.specs.Meets.{local_given}
 use Rattle.program_laws.specs.Parts.{IsPart}
 use Rattle.party_desk.specs.declared.desk.Desk.{Desk}

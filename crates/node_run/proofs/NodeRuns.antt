@@ -6,8 +6,8 @@ use Rattle.std.proofs.Math.ListN.{length-map}
 use Rattle.std.proofs.lemmas.Bool.{cases_eq, false≢true}
 use Rattle.std.proofs.lemmas.List.{append-nil}
 use mathlib.Core.Logic.{inl as left', inr as right'}
-use Rattle.job_plan.specs.declared.key.Key.{Key}
-use Rattle.job_plan.specs.Numbers.{message}
+use Rattle.plan_model.specs.declared.key.Key.{Key}
+use Rattle.plan_model.specs.Numbers.{message}
 use Rattle.message_board.specs.Plain.{plain_cell}
 use Rattle.party_desk.specs.declared.desk.Desk.{Desk}
 use Rattle.inbox_board.specs.Seats.{mark_of}

@@ -2,8 +2,8 @@
 use Rattle.std.proofs.Common.{◌≡◌, ◌≢◌, ℕ, suc, ◌+◌, ◌*◌, ◌<◌, ◌≤◌, List, length, sym, ap, ◌∙◌, subst, arith, Option, Some, None, Ok, Err, length-append}
 use Rattle.std.specs.Prelude.{IsTrue, IsOk}
 use Rattle.std.proofs.lemmas.Bool.{false≢true}
-use Rattle.job_plan.specs.declared.key.Key.{Key}
-use Rattle.party_program.specs.Programs.{at}
+use Rattle.plan_model.specs.declared.key.Key.{Key}
+use Rattle.program_model.specs.Programs.{at}
 use Rattle.frame_code.specs.Frames.{frame_bytes}
 use Rattle.outer_io.specs.Sink.{SinkReading, Writes}
 use Rattle.outer_io.specs.declared.sink.Failed.{Failed}

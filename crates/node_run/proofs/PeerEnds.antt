@@ -10,10 +10,10 @@ use Rattle.message_board.specs.Pairs.{Knows}
 use Rattle.message_board.specs.Plain.{plain_cell}
 use Rattle.inbox_board.specs.Seats.{mark_of}
 use Rattle.inbox_board.specs.Folds.{GotWhatWasPushed}
-use Rattle.job_plan.specs.Messages.{messages}
-use Rattle.job_plan.specs.Numbers.{message}
-use Rattle.party_program.specs.declared.program.Instruction.TheVariants.{Take, End}
-use Rattle.party_program.specs.Programs.{at}
+use Rattle.plan_model.specs.Messages.{messages}
+use Rattle.plan_model.specs.Numbers.{message}
+use Rattle.program_model.specs.declared.instruction.Instruction.TheVariants.{Take, End}
+use Rattle.program_model.specs.Programs.{at}
 use Rattle.outer_io.specs.Inlet.{InletReading, shut_inlet}
 use Rattle.outer_io.specs.Links.{LinksReading}
 use Rattle.node_talk.specs.declared.fault.NodeFault.{NodeFault}

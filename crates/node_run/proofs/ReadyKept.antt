@@ -10,11 +10,11 @@ use Rattle.list_laws.proofs.PushedLists.{got_push}
 use Rattle.atomic_table.specs.Seated.{TableId}
 use Rattle.message_board.specs.Plain.{word_in_cell, plain_cell}
 use Rattle.frame_code.specs.declared.framing.FrameForm.{FrameForm}
-use Rattle.job_plan.specs.Plans.{Plan}
+use Rattle.plan_model.specs.Plans.{Plan}
 use Rattle.party_file.specs.Table.{PartyForm}
 use Rattle.party_desk.specs.declared.desk.Desk.{Desk}
 use Rattle.party_desk.specs.Desks.{IsNew}
-use Rattle.party_program.specs.States.{Given, state}
+use Rattle.program_model.specs.States.{Given, state}
 use Rattle.desk_laws.proofs.Elements.{element_there, stands_at}
 use Rattle.node_run.specs.Mail.{BoxModel, no_box}
 use Rattle.node_run.specs.Remains.{ReaderPartsModel, party_at}

@@ -6,9 +6,9 @@ use Rattle.std.specs.Prelude.{slice_index_or}
 use Rattle.std.proofs.Math.ListN.{length-map}
 use Rattle.atomic_table.specs.Seated.{TableId}
 use Rattle.frame_code.specs.declared.framing.FrameForm.{FrameForm}
-use Rattle.job_plan.specs.Plans.{Plan}
-use Rattle.job_plan.specs.Messages.{messages}
-use Rattle.job_plan.specs.Numbers.{message}
+use Rattle.plan_model.specs.Plans.{Plan}
+use Rattle.plan_model.specs.Messages.{messages}
+use Rattle.plan_model.specs.Numbers.{message}
 use Rattle.program_laws.specs.Parts.{IsPart}
 use Rattle.desk_laws.proofs.Elements.{element_there, stands_at}
 use Rattle.outer_io.specs.Links.{LinksReading, HasPeers}

@@ -7,7 +7,7 @@ use Rattle.std.proofs.lemmas.Option.{slice_get-get_or, slice_get_within, get_or_
 use Rattle.std.proofs.Math.ListN.{length-set}
 use mathlib.Core.Logic.{inl, inr}
 use Rattle.message_board.specs.Plain.{plain_cell}
-use Rattle.party_program.specs.Programs.{program}
+use Rattle.program_model.specs.Programs.{program}
 use Rattle.party_desk.specs.declared.desk.Desk.{Desk}
 use Rattle.party_desk.specs.Desks.{IsDesk}
 use Rattle.program_laws.specs.Meets.{local_given}

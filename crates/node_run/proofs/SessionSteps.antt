@@ -5,19 +5,19 @@ use Rattle.std.proofs.lemmas.List.{append-nil, take_all, get_or_past}
 use Rattle.std.specs.Prelude.{slice_index_or, ◌^◌}
 use mathlib.Core.Logic.{inl as left', inr as right'}
 use Rattle.circuit_model.proofs.SetAt.{set_here, set_there}
-use Rattle.job_plan.specs.Plans.{Plan}
-use Rattle.job_plan.specs.declared.key.Key.{Key}
-use Rattle.job_plan.specs.Messages.{messages}
-use Rattle.job_plan.specs.Numbers.{message}
+use Rattle.plan_model.specs.Plans.{Plan}
+use Rattle.plan_model.specs.declared.key.Key.{Key}
+use Rattle.plan_model.specs.Messages.{messages}
+use Rattle.plan_model.specs.Numbers.{message}
 use Rattle.message_board.specs.Plain.{plain_cell, plain_put}
 use Rattle.message_board.proofs.CellPosts.{put_length, put_keeps, put_new}
 use Rattle.message_board.specs.declared.cells.Posted.{Posted}
 use Rattle.message_board.specs.declared.cells.Posted.TheVariants.{Done}
 use Rattle.message_board.specs.declared.cells.Cells.{Ghosts as Meaning}
-use Rattle.party_program.specs.declared.program.Instruction.{Instruction}
-use Rattle.party_program.specs.declared.program.Instruction.TheVariants.{Post, Take, End}
-use Rattle.party_program.specs.Programs.{program, at}
-use Rattle.party_program.specs.States.{Given, state}
+use Rattle.program_model.specs.declared.instruction.Instruction.{Instruction}
+use Rattle.program_model.specs.declared.instruction.Instruction.TheVariants.{Post, Take, End}
+use Rattle.program_model.specs.Programs.{program, at}
+use Rattle.program_model.specs.States.{Given, state}
 use Rattle.party_desk.specs.declared.desk.Desk.{Desk}
 use Rattle.party_desk.specs.declared.desk.Stepped.TheVariants.{Moved, NotYet, Ended}
 use Rattle.party_desk.specs.Desks.{IsDesk, Waits, instruction_at}

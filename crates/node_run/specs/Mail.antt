@@ -8,11 +8,11 @@ use Rattle.message_board.specs.Plain.{CellContents, plain_cell, plain_put}
 use Rattle.inbox_board.specs.declared.steps.InboxView.{InboxView}
 use Rattle.inbox_board.specs.Rule.{newcomer, notes}
 use Rattle.inbox_board.specs.Seats.{Looks, mark_as}
-use Rattle.job_plan.specs.Plans.{Plan, slots}
-use Rattle.job_plan.specs.Firsts.{first}
-use Rattle.job_plan.specs.Sound.{IsSound}
-use Rattle.job_plan.specs.Messages.{messages}
-use Rattle.job_plan.specs.Numbers.{message}
+use Rattle.plan_model.specs.Plans.{Plan, slots}
+use Rattle.plan_model.specs.Firsts.{first}
+use Rattle.plan_model.specs.Sound.{IsSound}
+use Rattle.plan_model.specs.Messages.{messages}
+use Rattle.plan_model.specs.Numbers.{message}
 use Rattle.outer_io.specs.Links.{are_flushed}
 use Rattle.outer_io.specs.Outlet.{OutletReading}
 use Rattle.outer_io.specs.Sink.{SinkReading, Writes}

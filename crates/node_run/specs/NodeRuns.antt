@@ -1,7 +1,7 @@
 -- What a node's run says: its answer, what its links took and gave, and what stays steady.
 use Rattle.std.specs.Prelude.{◌≡◌, ◌≢◌, ◌⊎◌, ℕ, ◌-◌, ◌<◌, ◌≤◌, ◌^◌, IsTrue, IsOk, IsErr, IfOk, IfErr, List, Result, Err}
 use Rattle.std.specs.List.{AllByRecursion}
-use Rattle.job_plan.specs.declared.key.Key.{Key}
+use Rattle.plan_model.specs.declared.key.Key.{Key}
 use Rattle.share_world.specs.Laws.{IsWhole}
 use Rattle.outer_io.specs.Count.{Rose}
 use Rattle.outer_io.specs.Inlet.{ahead, shut_inlet}

@@ -6,10 +6,10 @@ use Rattle.atomic_table.specs.Seated.{TableId}
 use Rattle.inbox_board.specs.Rule.{newcomer}
 use Rattle.message_board.specs.Plain.{CellContents, plain_cell}
 use Rattle.frame_code.specs.declared.framing.FrameForm.{FrameForm}
-use Rattle.job_plan.specs.Plans.{Plan}
-use Rattle.job_plan.specs.Sound.{IsSound}
-use Rattle.job_plan.specs.Messages.{messages}
-use Rattle.job_plan.specs.InputWords.{session_words}
+use Rattle.plan_model.specs.Plans.{Plan}
+use Rattle.plan_model.specs.Sound.{IsSound}
+use Rattle.plan_model.specs.Messages.{messages}
+use Rattle.plan_model.specs.InputWords.{session_words}
 use Rattle.party_file.specs.Table.{PartyForm}
 use Rattle.party_file.specs.Forms.{FitsPlan}
 use Rattle.party_desk.specs.declared.desk.Desk.{Desk}

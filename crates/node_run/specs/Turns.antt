@@ -1,7 +1,7 @@
 -- What one turn of a desk comes to.
 use Rattle.std.specs.Prelude.{◌≡◌, ℕ, ◌+◌, length}
-use Rattle.party_program.specs.declared.program.Instruction.TheVariants.{Take}
-use Rattle.party_program.specs.Programs.{program, at}
+use Rattle.program_model.specs.declared.instruction.Instruction.TheVariants.{Take}
+use Rattle.program_model.specs.Programs.{program, at}
 use Rattle.party_desk.specs.declared.desk.Desk.{Desk}
 use Rattle.node_talk.specs.Talks.{Node, acts}
 use Rattle.node_run.specs.declared.sessions.Turn.{Turn}

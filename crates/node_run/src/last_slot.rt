@@ -13,8 +13,8 @@ pub struct LastSlot {
 
 impl LastSlot {
     ghost use Rattle.std.specs.Prelude.{◌≡◌, ◌<◌, length, true};
-    ghost use Rattle.job_plan.specs.Messages.{messages};
-    ghost use Rattle.job_plan.specs.Numbers.{message};
+    ghost use Rattle.plan_model.specs.Messages.{messages};
+    ghost use Rattle.plan_model.specs.Numbers.{message};
     ghost use Rattle.node_run.specs.Mail.{StandsIn};
 
     /// The first slot of all, before any message was looked for.

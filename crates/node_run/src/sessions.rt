@@ -1,6 +1,6 @@
 // The sessions of a node.
 ghost use Rattle.std.specs.Prelude.{◌≡◌, ℕ, ◌<◌, length, true, false, None};
-ghost use Rattle.party_program.specs.Programs.{program};
+ghost use Rattle.program_model.specs.Programs.{program};
 ghost use Rattle.node_talk.specs.Talks.{Node};
 ghost use Rattle.node_run.specs.Mail.{ComesFromPeer, NothingWaits};
 ghost use Rattle.node_run.specs.Progress.{Begin, InSession, InOrder, Halted, KeepsWords};

@@ -5,13 +5,13 @@ use Rattle.std.proofs.lemmas.List.{get_or-append-add}
 use Rattle.std.proofs.Math.ListN.{get_or-append}
 use mathlib.Core.Logic.{inl, inr}
 use Rattle.list_laws.specs.Lists.{joined}
-use Rattle.job_plan.specs.Messages.{messages}
-use Rattle.job_plan.specs.Numbers.{message}
+use Rattle.plan_model.specs.Messages.{messages}
+use Rattle.plan_model.specs.Numbers.{message}
 use Rattle.share_world.specs.Worlds.{World}
-use Rattle.party_program.specs.declared.program.Instruction.{Instruction}
-use Rattle.party_program.specs.declared.program.Instruction.TheVariants.{Post, Take, End}
-use Rattle.party_program.specs.Programs.{program, at, post}
-use Rattle.party_program.specs.Proper.{Proper}
+use Rattle.program_model.specs.declared.instruction.Instruction.{Instruction}
+use Rattle.program_model.specs.declared.instruction.Instruction.TheVariants.{Post, Take, End}
+use Rattle.program_model.specs.Programs.{program, at, post}
+use Rattle.program_model.specs.Proper.{Proper}
 use Rattle.program_laws.specs.Meets.{local_given}
 use Rattle.program_laws.specs.Parts.{IsPart}
 use Rattle.program_laws.proofs.OncePosted.{once}

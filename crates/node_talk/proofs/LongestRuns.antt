@@ -5,9 +5,9 @@ use Rattle.std.specs.List.{AllByRecursion}
 use Rattle.std.proofs.lemmas.Bool.{cases_eq, cases_lt}
 use Rattle.std.proofs.lemmas.List.{length-take-le, take-append-drop, take-take}
 use mathlib.Core.Logic.{inl, inr}
-use Rattle.job_plan.specs.declared.key.Key.{Key}
-use Rattle.job_plan.specs.Numbers.{no_key}
-use Rattle.job_plan.proofs.DistinctMessages.{every_place}
+use Rattle.plan_model.specs.declared.key.Key.{Key}
+use Rattle.plan_model.specs.Numbers.{no_key}
+use Rattle.plan_model.proofs.DistinctMessages.{every_place}
 use Rattle.frame_code.specs.declared.framing.Framing.{Framing}
 use Rattle.frame_code.specs.Frames.{hello, frame, frame_bytes}
 use Rattle.frame_code.proofs.ReadFrames.{word_in, word_back, length-hello}

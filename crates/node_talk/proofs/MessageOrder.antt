@@ -8,15 +8,15 @@ use Rattle.std.proofs.lemmas.Grind.{flat_map-append}
 use mathlib.Core.Logic.{inl, inr}
 use Rattle.list_laws.specs.Lists.{joined}
 use Rattle.list_laws.proofs.JoinedLists.{joined_eq}
-use Rattle.job_plan.specs.Plans.{Plan, slot, slots}
-use Rattle.job_plan.specs.declared.key.Key.{Key}
-use Rattle.job_plan.specs.Firsts.{numbers}
-use Rattle.job_plan.specs.Messages.{slot_messages, session_messages}
-use Rattle.job_plan.specs.Numbers.{message}
-use Rattle.job_plan.proofs.SlotMessages.{keys_are}
-use Rattle.party_program.specs.declared.program.Instruction.{Instruction}
-use Rattle.party_program.specs.declared.program.Instruction.TheVariants.{Post}
-use Rattle.party_program.specs.Programs.{program, at, from, to, post, opening, posts, head, tail, slot_program}
+use Rattle.plan_model.specs.Plans.{Plan, slot, slots}
+use Rattle.plan_model.specs.declared.key.Key.{Key}
+use Rattle.plan_model.specs.Firsts.{numbers}
+use Rattle.plan_model.specs.Messages.{slot_messages, session_messages}
+use Rattle.plan_model.specs.Numbers.{message}
+use Rattle.plan_model.proofs.SlotMessages.{keys_are}
+use Rattle.program_model.specs.declared.instruction.Instruction.{Instruction}
+use Rattle.program_model.specs.declared.instruction.Instruction.TheVariants.{Post}
+use Rattle.program_model.specs.Programs.{program, at, from, to, post, opening, posts, head, tail, slot_program}
 use Rattle.program_laws.proofs.ProgramParts.{every_opening}
 use Rattle.program_laws.proofs.SameTalks.{Quiet, quiet_tail, told_stays}
 use Rattle.node_talk.specs.Talks.{framing, Node, acts, goes, messages_between, stream, post_to, posts_to, TalkIsSaid}

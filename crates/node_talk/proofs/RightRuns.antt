@@ -5,10 +5,10 @@ use Rattle.std.specs.List.{AllByRecursion}
 use Rattle.std.proofs.lemmas.Bool.{and_from, and_parts, cases_eq, eq-eqb, eqb-true}
 use Rattle.std.proofs.lemmas.List.{take_all}
 use mathlib.Core.Logic.{inl, inr}
-use Rattle.job_plan.specs.declared.key.Key.{Key}
-use Rattle.job_plan.specs.Messages.{messages}
-use Rattle.job_plan.specs.Numbers.{message, no_key}
-use Rattle.job_plan.proofs.DistinctMessages.{every_place}
+use Rattle.plan_model.specs.declared.key.Key.{Key}
+use Rattle.plan_model.specs.Messages.{messages}
+use Rattle.plan_model.specs.Numbers.{message, no_key}
+use Rattle.plan_model.proofs.DistinctMessages.{every_place}
 use Rattle.share_world.specs.Worlds.{word}
 use Rattle.share_world.specs.Locals.{local_word}
 use Rattle.share_world.specs.Laws.{IsWhole}

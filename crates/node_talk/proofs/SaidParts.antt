@@ -1,7 +1,7 @@
 -- What was said is shown by all readings of the outlets that tell the same.
 use Rattle.std.proofs.Common.{◌≡◌, ℕ, sym, ◌∙◌, subst, inl, inr, ⊎_elim}
-use Rattle.job_plan.specs.declared.key.Key.{Key}
-use Rattle.job_plan.specs.Numbers.{message}
+use Rattle.plan_model.specs.declared.key.Key.{Key}
+use Rattle.plan_model.specs.Numbers.{message}
 use Rattle.frame_code.specs.Frames.{frame}
 use Rattle.outer_io.specs.Count.{Rose}
 use Rattle.outer_io.specs.Sink.{SinkReading, added, AddedPrefix}

@@ -3,8 +3,8 @@ use Rattle.std.proofs.Common.{◌≡◌, ℕ, ◌<◌, length, sym, ◌∙◌, a
 use Rattle.std.proofs.lemmas.Bool.{cases_eq, cases_lt}
 use Rattle.std.proofs.lemmas.List.{get_or_past}
 use mathlib.Core.Logic.{inl, inr}
-use Rattle.party_program.specs.declared.program.Instruction.TheVariants.{Take, End}
-use Rattle.party_program.specs.Programs.{at}
+use Rattle.program_model.specs.declared.instruction.Instruction.TheVariants.{Take, End}
+use Rattle.program_model.specs.Programs.{at}
 use Rattle.node_talk.specs.Talks.{Node, acts}
 use Rattle.node_talk.specs.Runs.{HasCome, TakesWhatCame, StopsAfter, StopsAtOnePlace}
 

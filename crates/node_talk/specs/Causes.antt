@@ -1,7 +1,7 @@
 -- Why a node stops.
 use Rattle.std.specs.Prelude.{◌≡◌, ◌≢◌, ◌⊎◌, ℕ, ◌+◌, ◌<◌, ◌^◌, IsTrue, List, length, take, Option, None, Some}
 use Rattle.std.specs.List.{AllByRecursion}
-use Rattle.job_plan.specs.declared.key.Key.{Key}
+use Rattle.plan_model.specs.declared.key.Key.{Key}
 use Rattle.outer_io.specs.Count.{Rose}
 use Rattle.outer_io.specs.Inlet.{ahead, IsAtEnd}
 use Rattle.frame_code.specs.declared.framing.Framing.{Framing}

@@ -3,14 +3,14 @@ use Rattle.std.specs.Prelude.{◌≡◌, ◌≢◌, ◌⊎◌, ℕ, suc, ◌<◌
 use Rattle.std.specs.List.{AllByRecursion}
 use Rattle.list_laws.specs.Lists.{joined, only_if}
 use Rattle.session_slots.specs.Sessions.{readers, output_wire}
-use Rattle.job_plan.specs.Plans.{Plan, session, reads}
-use Rattle.job_plan.specs.Messages.{messages}
-use Rattle.job_plan.specs.Numbers.{message}
-use Rattle.job_plan.specs.declared.key.Key.{Key}
+use Rattle.plan_model.specs.Plans.{Plan, session, reads}
+use Rattle.plan_model.specs.Messages.{messages}
+use Rattle.plan_model.specs.Numbers.{message}
+use Rattle.plan_model.specs.declared.key.Key.{Key}
 use Rattle.share_world.specs.Worlds.{word, plain, touches}
 use Rattle.share_world.specs.Locals.{local_output}
-use Rattle.party_program.specs.declared.program.Instruction.TheVariants.{Post, Take}
-use Rattle.party_program.specs.Programs.{at}
+use Rattle.program_model.specs.declared.instruction.Instruction.TheVariants.{Post, Take}
+use Rattle.program_model.specs.Programs.{at}
 use Rattle.outer_io.specs.Count.{Rose}
 use Rattle.outer_io.specs.Inlet.{ahead}
 use Rattle.outer_io.specs.Sink.{SinkReading, added, AddedPrefix}

@@ -2,15 +2,15 @@
 use Rattle.std.specs.Prelude.{◌≡◌, ◌≢◌, ℕ, suc, ◌<◌, ◌≤◌, ◌^◌, Bool, ◌&&◌, nat_eq, List, [], ◌∷◌, ◌++◌, filter, length, take, slice_index_or}
 use Rattle.std.specs.List.{flat_map, AllByRecursion}
 use Rattle.list_laws.specs.Lists.{joined, only_if}
-use Rattle.job_plan.specs.Plans.{Plan}
-use Rattle.job_plan.specs.declared.key.Key.{Key}
-use Rattle.job_plan.specs.Messages.{messages}
-use Rattle.job_plan.specs.Numbers.{message, no_key}
+use Rattle.plan_model.specs.Plans.{Plan}
+use Rattle.plan_model.specs.declared.key.Key.{Key}
+use Rattle.plan_model.specs.Messages.{messages}
+use Rattle.plan_model.specs.Numbers.{message, no_key}
 use Rattle.share_world.specs.Worlds.{World}
 use Rattle.share_world.specs.Locals.{local_word}
-use Rattle.party_program.specs.declared.program.Instruction.{Instruction}
-use Rattle.party_program.specs.declared.program.Instruction.TheVariants.{Post}
-use Rattle.party_program.specs.Programs.{program, to}
+use Rattle.program_model.specs.declared.instruction.Instruction.{Instruction}
+use Rattle.program_model.specs.declared.instruction.Instruction.TheVariants.{Post}
+use Rattle.program_model.specs.Programs.{program, to}
 use Rattle.frame_code.specs.declared.framing.FrameForm.{FrameForm}
 use Rattle.frame_code.specs.declared.framing.Framing.{Framing}
 use Rattle.frame_code.specs.Frames.{hello, frame}

@@ -1,8 +1,8 @@
 //! Laws of what a node says and hears.
 ghost use Rattle.std.specs.Prelude.{◌≡◌, ℕ, ◌<◌, ◌≤◌, length};
-ghost use Rattle.job_plan.specs.Messages.{messages};
-ghost use Rattle.job_plan.specs.Numbers.{message};
-ghost use Rattle.job_plan.specs.declared.key.Key.{Key};
+ghost use Rattle.plan_model.specs.Messages.{messages};
+ghost use Rattle.plan_model.specs.Numbers.{message};
+ghost use Rattle.plan_model.specs.declared.key.Key.{Key};
 ghost use Rattle.share_world.specs.Worlds.{view};
 ghost use Rattle.share_world.specs.Laws.{IsWhole};
 ghost use Rattle.outer_io.specs.Count.{Rose};

@@ -2,7 +2,7 @@
 use Rattle.std.proofs.Common.{◌≡◌, ℕ, zero, suc, List, ◌++◌, refl, ap, ◌∙◌}
 use Rattle.std.proofs.lemmas.List.Concat.{flat_map-append}
 use Rattle.list_laws.specs.Lists.{joined}
-use Rattle.job_plan.specs.declared.key.Key.{Key}
+use Rattle.plan_model.specs.declared.key.Key.{Key}
 use Rattle.view_text.specs.ViewText.{message_line, message_lines}
 
 pub lines-joined : (names : List (List ℕ)) (n : ℕ) (f : ℕ → List (Key × ℕ)) → message_lines names (joined n f) ≡ joined n (λ m. message_lines names (f m))

@@ -5,9 +5,9 @@ use Rattle.std.specs.Option.{unwrap_or}
 use Rattle.list_laws.specs.Lists.{joined, listed, only_if}
 use Rattle.party_set.specs.Parties.{has_party, party_mask}
 use Rattle.party_names.specs.Names.{name_at}
-use Rattle.job_plan.specs.Plans.{Plan, session}
-use Rattle.job_plan.specs.Numbers.{message}
-use Rattle.job_plan.specs.declared.key.Key.{Key}
+use Rattle.plan_model.specs.Plans.{Plan, session}
+use Rattle.plan_model.specs.Numbers.{message}
+use Rattle.plan_model.specs.declared.key.Key.{Key}
 use Rattle.share_world.specs.Worlds.{touches}
 use Rattle.node_talk.specs.Runs.{Results, word_kept, output_of, kept_view}
 use Rattle.view_text.specs.ViewText.{view_text}

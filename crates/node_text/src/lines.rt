@@ -2,9 +2,9 @@
 ghost use Rattle.std.specs.Prelude.{◌≡◌, ◌+◌, ◌<◌, ◌≤◌, length};
 ghost use Rattle.outer_io.specs.Sink.{Writes};
 ghost use Rattle.outer_io.specs.Blocks.{Adds};
-ghost use Rattle.job_plan.specs.Plans.{session};
-ghost use Rattle.job_plan.specs.Messages.{messages};
-ghost use Rattle.job_plan.specs.Sound.{IsSound};
+ghost use Rattle.plan_model.specs.Plans.{session};
+ghost use Rattle.plan_model.specs.Messages.{messages};
+ghost use Rattle.plan_model.specs.Sound.{IsSound};
 ghost use Rattle.text_parts.specs.Parts.{words_text};
 ghost use Rattle.view_text.specs.OutLines.{wires_before};
 ghost use Rattle.node_text.specs.NodeText.{node_text, outputs_text, session_lines, value_line, output_words};

@@ -2,7 +2,7 @@
 ghost use Rattle.std.specs.Prelude.{◌≡◌, ◌<◌, ◌≤◌, ◌^◌, length};
 ghost use Rattle.list_laws.specs.Lists.{joined};
 ghost use Rattle.outer_io.specs.Blocks.{Adds};
-ghost use Rattle.job_plan.specs.Messages.{messages};
+ghost use Rattle.plan_model.specs.Messages.{messages};
 ghost use Rattle.node_talk.specs.Runs.{kept_view};
 ghost use Rattle.view_text.specs.ViewText.{view_text, message_lines};
 ghost use Rattle.node_text.specs.NodeText.{kept_message};

@@ -8,7 +8,7 @@ use Rattle.toml_fields.specs.Fields.{has_field, is_misfit}
 use Rattle.toml_fields.specs.declared.kind.Kind.TheVariants as kind
 use Rattle.list_laws.specs.Checks.{first_fault}
 use Rattle.party_names.specs.Names.{name_at}
-use Rattle.job_plan.specs.Plans.{Plan}
+use Rattle.plan_model.specs.Plans.{Plan}
 use Rattle.party_file.specs.declared.fault.PartyFault.{PartyFault}
 use Rattle.other_file.specs.declared.fault.OtherFault.{OtherFault}
 use Rattle.other_file.specs.declared.fault.OtherFault.TheVariants.{File, WrongKind, Inputs, Memory}

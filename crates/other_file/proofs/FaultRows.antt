@@ -9,7 +9,7 @@ use Rattle.toml_fields.specs.declared.kind.Kind.TheVariants as kind
 use Rattle.list_laws.specs.Lists.{listed}
 use Rattle.list_laws.specs.Checks.{◌answers◌, first_fault, or_fault}
 use Rattle.party_names.specs.Names.{name_at}
-use Rattle.job_plan.specs.Plans.{Plan}
+use Rattle.plan_model.specs.Plans.{Plan}
 use Rattle.party_file.specs.Table.{version_checks, input_checks, numbers_in}
 use Rattle.party_file.specs.declared.fault.PartyFault.{PartyFault}
 use Rattle.party_file.specs.declared.fault.PartyFault.TheVariants.{CountDiffers}

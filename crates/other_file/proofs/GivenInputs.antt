@@ -14,8 +14,8 @@ use Rattle.list_laws.proofs.FirstFaults.{none_failed, listed-passed}
 use Rattle.list_laws.proofs.JoinedLists.{length-listed, listed_at}
 use Rattle.party_names.specs.Names.{name_at}
 use Rattle.session_slots.specs.Sessions.{owners}
-use Rattle.job_plan.specs.Plans.{Plan, session, gives}
-use Rattle.job_plan.specs.InputWords.{AreInputs}
+use Rattle.plan_model.specs.Plans.{Plan, session, gives}
+use Rattle.plan_model.specs.InputWords.{AreInputs}
 use Rattle.party_file.specs.Table.{input_checks, numbers_in}
 use Rattle.party_file.specs.declared.fault.PartyFault.{PartyFault}
 use Rattle.party_file.specs.declared.fault.PartyFault.TheVariants.{CountDiffers}

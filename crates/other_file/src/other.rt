@@ -1,7 +1,7 @@
 //! The file of other inputs.
 ghost use Rattle.std.specs.Prelude.{◌≡◌, ◌⊎◌, Some, None, Ok, Err, IfOk, IfErr, length};
 ghost use Rattle.toml.specs.View.{table_view};
-ghost use Rattle.job_plan.specs.InputWords.{AreInputs, input_words};
+ghost use Rattle.plan_model.specs.InputWords.{AreInputs, input_words};
 ghost use Rattle.other_file.specs.Table.{other_fault, other_inputs, other_in};
 ghost use Rattle.other_file.specs.Faults.{HasPartyBelow};
 ghost use Rattle.other_file.specs.declared.fault.OtherFault.TheVariants.{Memory};

@@ -4,7 +4,7 @@ ghost use Rattle.toml.specs.View.{view, table_view};
 ghost use Rattle.toml_fields.specs.Fields.{text_of};
 ghost use Rattle.list_laws.specs.Lists.{listed};
 ghost use Rattle.list_laws.specs.Checks.{first_fault};
-ghost use Rattle.job_plan.specs.InputWords.{AreInputs, session_words, input_words};
+ghost use Rattle.plan_model.specs.InputWords.{AreInputs, session_words, input_words};
 ghost use Rattle.party_file.specs.Table.{numbers_in};
 ghost use Rattle.party_file.specs.declared.fault.PartyFault.TheVariants as own;
 ghost use Rattle.other_file.specs.Table.{text_checks, party_fault, party_inputs};

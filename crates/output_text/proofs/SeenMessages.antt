@@ -6,17 +6,18 @@ use Rattle.std.proofs.lemmas.List.{ext_get_or, length-map}
 use Rattle.std.proofs.lemmas.List.Concat.{flat_map-append}
 use Rattle.list_laws.specs.Lists.{joined, listed}
 use Rattle.list_laws.proofs.JoinedLists.{length-listed, listed_at}
-use Rattle.job_plan.specs.declared.key.Key.{Key}
-use Rattle.job_plan.specs.declared.pattern.Transfer.{Transfer}
-use Rattle.job_plan.specs.Plans.{Plan, slot}
-use Rattle.job_plan.specs.Messages.{slot_messages}
-use Rattle.job_plan.specs.Numbers.{no_key}
-use Rattle.job_plan.specs.Patterns.{named, transfers, pattern_at}
-use Rattle.job_plan.proofs.RankSearch.{no_transfer, named_at}
+use Rattle.plan_model.specs.declared.key.Key.{Key}
+use Rattle.plan_model.specs.declared.pattern.Transfer.{Transfer}
+use Rattle.plan_model.specs.Plans.{Plan, slot}
+use Rattle.plan_model.specs.Messages.{slot_messages}
+use Rattle.plan_model.specs.Numbers.{no_key}
+use Rattle.plan_model.specs.Patterns.{named, transfers, pattern_at}
+use Rattle.plan_model.proofs.RankSearch.{no_transfer, named_at}
 use Rattle.share_world.specs.Worlds.{World, touches, word}
 use Rattle.view_text.specs.ViewText.{message_line, message_lines}
 use Rattle.view_text.specs.Seen.{seen_of}
-use Rattle.view_text.proofs.SeenMessages.{seen-append, slot_named}
+use Rattle.view_text.proofs.SeenMessages.{seen-append}
+use Rattle.plan_model.proofs.NamedTransfers.{named_slot}
 use Rattle.output_text.specs.Seen.{seen_lines, slot_seen}
 
 module _ (names : List (List ℕ)) (w : World) (group : ℕ) where
@@ -66,4 +67,4 @@ module _ (names : List (List ℕ)) (w : World) (group : ℕ) where
       → joined (length xs) (λ i. seen (named s k (slice_index_or xs i no_transfer) ∷ [])) ≡ slot_seen names w group s k
   slot_is plan s k xs same is =
       sym (seen-transfers s k xs)
-      ∙ ap seen (sym (slot_named plan s k xs is) ∙ ap (λ p. slot_messages p s k (slot p s k)) (sym same))
+      ∙ ap seen (named_slot plan s k xs is ∙ ap (λ p. slot_messages p s k (slot p s k)) (sym same))

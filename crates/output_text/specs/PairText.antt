@@ -1,7 +1,7 @@
 -- The text of a pair of runs: for each its outputs and what a group sees of it, and then the tapes of the second.
 use Rattle.std.specs.Prelude.{ℕ, List, [], ◌++◌, length, slice_index_or, codes}
 use Rattle.list_laws.specs.Lists.{joined}
-use Rattle.job_plan.specs.declared.key.Key.{Key}
+use Rattle.plan_model.specs.declared.key.Key.{Key}
 use Rattle.share_world.specs.Worlds.{World, view}
 use Rattle.text_parts.specs.Parts.{words_text}
 use Rattle.party_names.specs.Names.{name_at}

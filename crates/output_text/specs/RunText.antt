@@ -1,7 +1,7 @@
 -- The text of a run: its outputs, and then what a group sees of it.
 use Rattle.std.specs.Prelude.{ℕ, List, ◌++◌, Option, None, Some}
 use Rattle.party_set.specs.Parties.{Members}
-use Rattle.job_plan.specs.declared.key.Key.{Key}
+use Rattle.plan_model.specs.declared.key.Key.{Key}
 use Rattle.share_world.specs.Worlds.{World, view}
 use Rattle.view_text.specs.ViewText.{view_text}
 use Rattle.output_text.specs.OutText.{out_text}

@@ -2,8 +2,8 @@
 use Rattle.std.specs.Prelude.{ℕ, List, ◌++◌, length, codes}
 use Rattle.list_laws.specs.Lists.{joined}
 use Rattle.session_slots.specs.Counts.{products}
-use Rattle.job_plan.specs.Plans.{session}
-use Rattle.job_plan.specs.Messages.{messages}
+use Rattle.plan_model.specs.Plans.{session}
+use Rattle.plan_model.specs.Messages.{messages}
 use Rattle.share_world.specs.Worlds.{World}
 use Rattle.output_text.specs.CheckText.{count_line, words_line}
 use Rattle.output_text.specs.OutText.{out_text}

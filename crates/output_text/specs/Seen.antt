@@ -1,8 +1,8 @@
 -- What a group sees, message by message, as it is written.
 use Rattle.std.specs.Prelude.{ℕ, List}
-use Rattle.job_plan.specs.declared.key.Key.{Key}
-use Rattle.job_plan.specs.Plans.{slot}
-use Rattle.job_plan.specs.Messages.{slot_messages, session_messages}
+use Rattle.plan_model.specs.declared.key.Key.{Key}
+use Rattle.plan_model.specs.Plans.{slot}
+use Rattle.plan_model.specs.Messages.{slot_messages, session_messages}
 use Rattle.share_world.specs.Worlds.{World}
 use Rattle.view_text.specs.ViewText.{message_lines}
 use Rattle.view_text.specs.Seen.{seen_of}

@@ -2,7 +2,7 @@
 ghost use Rattle.std.specs.Prelude.{◌≡◌, ◌<◌, length};
 ghost use Rattle.outer_io.specs.Sink.{Writes};
 ghost use Rattle.outer_io.specs.Blocks.{Adds};
-ghost use Rattle.job_plan.specs.InputWords.{session_words};
+ghost use Rattle.plan_model.specs.InputWords.{session_words};
 ghost use Rattle.desk_workers.specs.Runs.{IsRunOver, OfItsWorld};
 ghost use Rattle.text_parts.specs.Parts.{words_text};
 ghost use Rattle.output_text.specs.Finished.{IsFinished, OfRunsWorld};

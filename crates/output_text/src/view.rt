@@ -1,9 +1,9 @@
 //! The text of what a group sees of a run.
 ghost use Rattle.std.specs.Prelude.{◌≡◌, ◌<◌, ◌∷◌, [], length};
 ghost use Rattle.outer_io.specs.Blocks.{Adds};
-ghost use Rattle.job_plan.specs.Messages.{messages};
-ghost use Rattle.job_plan.specs.Plans.{slots};
-ghost use Rattle.job_plan.specs.Sound.{IsSound};
+ghost use Rattle.plan_model.specs.Messages.{messages};
+ghost use Rattle.plan_model.specs.Plans.{slots};
+ghost use Rattle.plan_model.specs.Sound.{IsSound};
 ghost use Rattle.share_world.specs.Worlds.{view};
 ghost use Rattle.view_text.specs.ViewText.{view_text};
 ghost use Rattle.view_text.specs.Seen.{IsMessage};

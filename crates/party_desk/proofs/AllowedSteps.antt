@@ -8,24 +8,24 @@ use Rattle.circuit_model.specs.Circuits.{set_at}
 use Rattle.circuit_model.proofs.SetAt.{set_here, set_there}
 use Rattle.session_slots.specs.Sessions.{Slot, gate, kept_wire, operand, output_wire, mask_wire, product_wire}
 use Rattle.session_slots.specs.EarlyWires.{is_join}
-use Rattle.job_plan.specs.Plans.{Plan, least_held, session, slot}
+use Rattle.plan_model.specs.Plans.{Plan, least_held, session, slot}
 use Rattle.session_slots.specs.Sessions.Slot.{Input, At_gate, Output, Mask, Mask_product, Masked, Kept}
 use Rattle.message_board.specs.declared.cells.Cells.{Ghosts as Meaning}
-use Rattle.party_program.specs.declared.program.Instruction.{Instruction}
-use Rattle.party_program.specs.declared.program.Instruction.TheVariants.{Draw, Deal, Post, Take, Linear, Own, Sum, Open, Join, Deliver, End}
-use Rattle.party_program.specs.Programs.{program, at}
-use Rattle.party_program.specs.States.{Given, State, slot_of, posted, state}
-use Rattle.party_program.specs.Proper.{Proper, IsGivenWord, HasInput, with_got}
-use Rattle.party_program.specs.GivenData.{Suits}
+use Rattle.program_model.specs.declared.instruction.Instruction.{Instruction}
+use Rattle.program_model.specs.declared.instruction.Instruction.TheVariants.{Draw, Deal, Post, Take, Linear, Own, Sum, Open, Join, Deliver, End}
+use Rattle.program_model.specs.Programs.{program, at}
+use Rattle.program_model.specs.States.{Given, State, slot_of, posted, state}
+use Rattle.program_model.specs.Proper.{Proper, IsGivenWord, HasInput, with_got}
+use Rattle.program_model.specs.GivenData.{Suits}
 use Rattle.party_program.specs.declared.place.Place.{Place}
 use Rattle.party_program.specs.ProgramPlaces.{IsPlace, IsProgram}
 use Rattle.party_program.proofs.ProgramPlaces.{ends_there}
-use Rattle.party_program.proofs.StateReads.{state_same}
+use Rattle.program_model.proofs.StateReads.{state_same}
 use Rattle.program_laws.specs.WordsRead.{Carries, ReadsSummand}
 use Rattle.program_laws.proofs.SetWords.{reads_are_set}
 use Rattle.party_desk.specs.declared.memory.Memory.{Memory}
-use Rattle.job_plan.proofs.PlanSchemes.{plan_is}
-use Rattle.party_program.proofs.DifferentTakes.{takes_differ}
+use Rattle.plan_model.proofs.PlanSchemes.{plan_is}
+use Rattle.program_model.proofs.DifferentTakes.{takes_differ}
 use Rattle.program_laws.proofs.Lengths.{program_is_short}
 use Rattle.program_laws.proofs.ProgramParts.{fits}
 use Rattle.program_laws.proofs.ProperPrograms.{is_proper, can_deal, can_draw}

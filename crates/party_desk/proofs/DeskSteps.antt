@@ -5,24 +5,23 @@ use Rattle.std.proofs.lemmas.List.{get_or-drop, drop-drop}
 use Rattle.std.proofs.lemmas.Bool.{cases_eq, cond-false, false≢true}
 use Rattle.std.specs.List.{list_any}
 use mathlib.Core.Logic.{inl, inr}
-use Rattle.circuit_model.specs.Circuits.{set_at}
+use Rattle.circuit_model.specs.Circuits.{set_at, is_product}
 use Rattle.secret_sharing.specs.Schemes.{Scheme, own_product}
 use Rattle.session_slots.specs.Sessions.{Session, Slot, gate, is_prepared, mask_wire, product_in}
 use Rattle.session_slots.specs.declared.side.Side.TheVariants.{First, Second}
-use Rattle.job_plan.specs.Plans.{Plan, least_held, session, slot}
+use Rattle.plan_model.specs.Plans.{Plan, least_held, session, slot}
 use Rattle.session_slots.specs.Sessions.Slot.{Input, At_gate, Output, Mask, Mask_product, Masked, Kept}
 use Rattle.session_slots.specs.KeptWires.{IsInOrder, reads_in}
-use Rattle.circuit_model.specs.Circuits.{is_product}
 use Rattle.circuit_model.specs.Netlists.{read_by}
-use Rattle.job_plan.specs.Sound.{IsSound}
-use Rattle.job_plan.proofs.PlanSchemes.{plan_is}
+use Rattle.plan_model.specs.Sound.{IsSound}
+use Rattle.plan_model.proofs.PlanSchemes.{plan_is}
 use Rattle.std.specs.Arc.{arc_value}
 use Rattle.job_session.specs.declared.row_table.RowTable.{RowTable}
 use Rattle.list_laws.proofs.Totals.{total_eq}
-use Rattle.party_program.specs.declared.program.Instruction.{Instruction}
-use Rattle.party_program.specs.declared.program.Instruction.TheVariants.{Draw, Deal, Post, Take, Linear, Own, Sum, Open, Join, Deliver, End}
+use Rattle.program_model.specs.declared.instruction.Instruction.{Instruction}
+use Rattle.program_model.specs.declared.instruction.Instruction.TheVariants.{Draw, Deal, Post, Take, Linear, Own, Sum, Open, Join, Deliver, End}
 use Rattle.party_desk.specs.declared.desk.Desk.{Desk}
-use Rattle.party_program.specs.Programs.{program, at}
+use Rattle.program_model.specs.Programs.{program, at}
 use Rattle.program_laws.specs.WordsRead.{gate_at, IsToRead, KeepsRowsApart, Reads}
 use Rattle.program_laws.proofs.GateReads.{product_reads}
 use Rattle.program_laws.proofs.ProgramParts.{Multiplied, fits}
@@ -30,13 +29,13 @@ use Rattle.program_laws.proofs.SetWords.{own_row, read_is_held, reads_are_set}
 use Rattle.share_world.proofs.Settled.{is_first, is_second}
 use Rattle.row_steps.specs.Rows.{row, SameRow}
 use Rattle.party_program.specs.ProgramPlaces.{IsPlace, IsProgram}
-use Rattle.party_program.specs.States.{Given, State, taking_slot, state, next, word_after, dealt_in, drawn_in, joined_in, opened_in, took_in}
+use Rattle.program_model.specs.States.{Given, State, taking_slot, state, next, word_after, dealt_in, drawn_in, joined_in, opened_in, took_in}
 use Rattle.party_desk.specs.declared.memory.Memory.{Memory}
 use Rattle.party_desk.specs.Memories.{state_of, row_of, on_wires, Alike, IsMemoryOf}
 use Rattle.party_desk.specs.Desks.{Advanced, IsDesk, Remembers, after_on_rows, instruction_at, posts_in, takes_in, posts_before, takes_before}
 use Rattle.party_desk.proofs.RememberedWords.{SameRead, goes_on}
 use Rattle.party_desk.proofs.StateSteps.{IsWordOf, ReadsByGate}
-use Rattle.party_program.specs.Proper.{Deals, IsMask, Proper, IsGivenWord, drawn_by}
+use Rattle.program_model.specs.Proper.{Deals, IsMask, Proper, IsGivenWord, drawn_by}
 use Rattle.circuit_model.proofs.SetAt.{set_here, set_there}
 
 pub set_row_same : {A : Type 0} (P : ℕ → Type 0) (f g : ℕ → A) (v : ℕ) (x y : A) → ((u : ℕ) → P u → f u ≡ g u) → x ≡ y → (u : ℕ) → P u → set_at f v x u ≡ set_at g v y u

@@ -7,9 +7,9 @@ use Rattle.session_slots.specs.declared.side.Side.TheVariants.{First, Second}
 use Rattle.session_slots.specs.SoundSessions.{Inside, IsWired}
 use Rattle.session_slots.proofs.RowNames.{few_slots, mask_within, product_named, wires_named}
 use Rattle.session_slots.proofs.SessionSlots.{slots_are_numbered}
-use Rattle.job_plan.specs.Plans.{Plan, session, slot, slots}
-use Rattle.job_plan.specs.Sound.{IsSound}
-use Rattle.party_program.specs.Proper.{IsSlot, Multiplies}
+use Rattle.plan_model.specs.Plans.{Plan, session, slot, slots}
+use Rattle.plan_model.specs.Sound.{IsSound}
+use Rattle.program_model.specs.Proper.{IsSlot, Multiplies}
 use Rattle.program_laws.specs.WordsRead.{gate_at}
 use Rattle.party_desk.specs.Memories.{GateWithin}
 

@@ -8,23 +8,23 @@ use Rattle.session_slots.specs.declared.source.Source.TheVariants.{Given, Earlie
 use Rattle.session_slots.specs.Sessions.{Slot, source}
 use Rattle.session_slots.specs.Sessions.Slot.{Input, At_gate, Output, Mask, Mask_product, Masked, Kept}
 use Rattle.session_slots.proofs.SessionSlots.{slots_are_numbered}
-use Rattle.job_plan.specs.Plans.{Plan, session, slot, slot_number, slots}
-use Rattle.job_plan.specs.Numbers.{message}
-use Rattle.job_plan.specs.Firsts.{numbers}
-use Rattle.job_plan.specs.Sound.{IsSound}
-use Rattle.job_plan.specs.declared.pattern.Pattern.TheVariants.{Multiplied}
-use Rattle.job_plan.specs.Patterns.{input_pattern, pattern}
-use Rattle.job_plan.proofs.DistinctMessages.{every_place}
-use Rattle.job_plan.proofs.SlotMessages.{every_filter}
-use Rattle.party_program.specs.declared.half.Half.{Half}
-use Rattle.party_program.specs.declared.half.Half.TheVariants.{Head, Tail}
+use Rattle.plan_model.specs.Plans.{Plan, session, slot, slot_number, slots}
+use Rattle.plan_model.specs.Numbers.{message}
+use Rattle.plan_model.specs.Firsts.{numbers}
+use Rattle.plan_model.specs.Sound.{IsSound}
+use Rattle.plan_model.specs.declared.pattern.Pattern.TheVariants.{Multiplied}
+use Rattle.plan_model.specs.Patterns.{input_pattern, pattern}
+use Rattle.plan_model.proofs.DistinctMessages.{every_place}
+use Rattle.plan_model.proofs.SlotMessages.{every_filter}
+use Rattle.program_model.specs.declared.half.Half.{Half}
+use Rattle.program_model.specs.declared.half.Half.TheVariants.{Head, Tail}
 use Rattle.party_program.specs.declared.place.Place.{Place}
-use Rattle.party_program.specs.declared.program.Instruction.TheVariants.{End}
-use Rattle.party_program.specs.Programs.{at, from, half_program, program, taken, to}
+use Rattle.program_model.specs.declared.instruction.Instruction.TheVariants.{End}
+use Rattle.program_model.specs.Programs.{at, from, half_program, program, taken, to}
 use Rattle.party_program.specs.ProgramPlaces.{IsPlace}
 use Rattle.party_program.proofs.ProgramPlaces.{count_at, ends_there, in_slot as slot_in, instruction_is}
-use Rattle.party_program.specs.Proper.{IsSessionMessage, IsSlot, IsTakenMessage, Multiplies}
-use Rattle.party_program.specs.States.{slot_of, taking_slot}
+use Rattle.program_model.specs.Proper.{IsSessionMessage, IsSlot, IsTakenMessage, Multiplies}
+use Rattle.program_model.specs.States.{slot_of, taking_slot}
 use Rattle.party_desk.specs.declared.desk.Desk.{Desk}
 use Rattle.party_desk.specs.Desks.{NamesSlot, Stands}
 use Rattle.program_laws.proofs.ProgramParts.{every_closing, every_head, every_opening, every_tail, in_slot, taken_in_slot}

@@ -4,11 +4,11 @@ use Rattle.std.specs.Prelude.{slice_index}
 use Rattle.std.proofs.lemmas.Bool.{cases_eq}
 use mathlib.Core.Logic.{inl, inr}
 use Rattle.circuit_model.proofs.SetAt.{set_here, set_there}
-use Rattle.job_plan.specs.Plans.{IsPlan, Plan}
-use Rattle.party_program.specs.declared.program.Instruction.{Instruction}
-use Rattle.party_program.specs.Programs.{program, at}
-use Rattle.party_program.specs.Proper.{Proper}
-use Rattle.party_program.specs.States.{State, after}
+use Rattle.plan_model.specs.Plans.{IsPlan, Plan}
+use Rattle.program_model.specs.declared.instruction.Instruction.{Instruction}
+use Rattle.program_model.specs.Programs.{program, at}
+use Rattle.program_model.specs.Proper.{Proper}
+use Rattle.program_model.specs.States.{State, after}
 use Rattle.program_laws.specs.WordsRead.{SetsSummand, ReadsSummand, IsSet, IsToRead, ReadsWhatIsSet, KeepsRowsApart}
 use Rattle.party_desk.specs.Desks.{after_on_rows, wires_set}
 use Rattle.party_desk.specs.Memories.{into_rows, on_wires}

@@ -9,9 +9,9 @@ use Rattle.secret_sharing.specs.Schemes.{local}
 use Rattle.session_slots.specs.Sessions.{Session, Slot, gate, product_in}
 use Rattle.session_slots.specs.Sessions.Slot.{Input, At_gate, Output, Mask, Mask_product, Masked, Kept}
 use Rattle.session_slots.specs.KeptWires.{sets_in}
-use Rattle.job_plan.specs.Plans.{Plan, session}
-use Rattle.party_program.specs.Proper.{Multiplies}
-use Rattle.party_program.specs.States.{State, computed, dealt_as, dealt_in, posted, took_in}
+use Rattle.plan_model.specs.Plans.{Plan, session}
+use Rattle.program_model.specs.Proper.{Multiplies}
+use Rattle.program_model.specs.States.{State, computed, dealt_as, dealt_in, posted, took_in}
 use Rattle.party_desk.specs.Memories.{added, into_rows, on_rows, on_wires, Alike}
 use Rattle.row_steps.specs.Rows.{FillsRow, SameRows, gate_on_rows, row}
 

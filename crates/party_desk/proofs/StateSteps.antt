@@ -18,12 +18,12 @@ use Rattle.session_slots.specs.Sessions.Slot.{Input, At_gate, Output, Mask, Mask
 use Rattle.session_slots.specs.KeptWires.{is_read, reads_in, sets_in}
 use Rattle.session_slots.specs.declared.side.Side.{Side}
 use Rattle.session_slots.specs.declared.side.Side.TheVariants.{First, Second}
-use Rattle.job_plan.specs.Plans.{IsPlan, Plan, is_holder, least_held, holder_of, scheme, session, slot}
-use Rattle.job_plan.proofs.PlanSchemes.{scheme_is}
-use Rattle.party_program.specs.declared.program.Instruction.{Instruction}
-use Rattle.party_program.specs.declared.program.Instruction.TheVariants.{Draw, Deal, Post, Take, Linear, Own, Sum, Open, Join, Deliver, End}
-use Rattle.party_program.specs.Proper.{IsMask, IsOutput, Proper}
-use Rattle.party_program.specs.States.{State, after, dealt_in, drawn_in, excess_of, joined_in, opened, opened_in, output_in_slot, set_side, taking_slot, took_in}
+use Rattle.plan_model.specs.Plans.{IsPlan, Plan, is_holder, least_held, holder_of, scheme, session, slot}
+use Rattle.plan_model.proofs.PlanSchemes.{scheme_is}
+use Rattle.program_model.specs.declared.instruction.Instruction.{Instruction}
+use Rattle.program_model.specs.declared.instruction.Instruction.TheVariants.{Draw, Deal, Post, Take, Linear, Own, Sum, Open, Join, Deliver, End}
+use Rattle.program_model.specs.Proper.{IsMask, IsOutput, Proper}
+use Rattle.program_model.specs.States.{State, after, dealt_in, drawn_in, excess_of, joined_in, opened, opened_in, output_in_slot, set_side, taking_slot, took_in}
 use Rattle.program_laws.specs.WordsRead.{gate_at, Deals, Reads, ReadsSummand, SetsSummand, TakesInto}
 use Rattle.program_laws.proofs.GateReads.{local_same}
 use Rattle.program_laws.proofs.SetWords.{Finishes}

@@ -5,7 +5,7 @@ use Rattle.std.proofs.lemmas.Bool.{eqb-true, not-false}
 use Rattle.std.proofs.lemmas.List.{length-map}
 use Rattle.toml.specs.Data.{Data, Members}
 use Rattle.toml_fields.specs.Fields.{has_field, text_of, text_at, texts_at, items_at}
-use Rattle.job_plan.specs.Plans.{Plan, words}
+use Rattle.plan_model.specs.Plans.{Plan, words}
 use Rattle.list_laws.specs.Lists.{listed}
 use Rattle.tape_words.specs.Cuts.{cut}
 use Rattle.tape_words.specs.Seeds.{seed_word}

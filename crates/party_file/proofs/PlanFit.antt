@@ -15,7 +15,7 @@ use Rattle.tape_words.proofs.SeedLists.{stream_words-inside}
 use Rattle.toml_fields.specs.Fields.{has_field, text_at, texts_at}
 use Rattle.session_slots.specs.Sessions.{given_by, owners}
 use Rattle.session_slots.specs.declared.source.Source.TheVariants.{Given}
-use Rattle.job_plan.specs.Plans.{Plan, session, words, gives}
+use Rattle.plan_model.specs.Plans.{Plan, session, words, gives}
 use Rattle.session_slots.specs.Counts.{owned}
 use Rattle.list_laws.proofs.Totals.{total_count}
 use Rattle.list_laws.specs.Checks.{◌answers◌, first_fault}

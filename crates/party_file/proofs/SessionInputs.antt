@@ -7,10 +7,10 @@ use Rattle.toml.specs.View.{view}
 use Rattle.toml.specs.declared.value.Value.{Value}
 use Rattle.toml_fields.specs.Fields.{text_of}
 use Rattle.session_slots.specs.Sessions.{Session}
-use Rattle.job_plan.specs.Plans.{Plan, session, words}
+use Rattle.plan_model.specs.Plans.{Plan, session, words}
 use Rattle.std.proofs.Math.Seq.{take-length}
 use Rattle.session_slots.specs.Counts.{owned}
-use Rattle.job_plan.specs.InputWords.{session_words}
+use Rattle.plan_model.specs.InputWords.{session_words}
 use Rattle.list_laws.specs.Lists.{joined}
 use Rattle.list_laws.proofs.JoinedLists.{length-listed}
 use Rattle.list_laws.specs.Checks.{first_fault}

@@ -1,7 +1,7 @@
 -- What a party's file gives, and that it fits the plan.
 use Rattle.std.specs.Prelude.{◌≡◌, ℕ, ◌<◌, ◌^◌, [], length, slice_index, slice_index_or, All}
-use Rattle.job_plan.specs.Plans.{Plan, words, input_count}
-use Rattle.job_plan.specs.InputWords.{session_words}
+use Rattle.plan_model.specs.Plans.{Plan, words, input_count}
+use Rattle.plan_model.specs.InputWords.{session_words}
 use Rattle.party_file.specs.Table.{PartyForm}
 use Rattle.party_file.specs.declared.data.PartyData.{PartyData}
 

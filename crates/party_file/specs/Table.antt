@@ -16,7 +16,7 @@ use Rattle.toml_fields.specs.Documents.{document_of}
 use Rattle.toml_fields.specs.Fields.{has_field, is_misfit, integer_at, text_at, texts_at}
 use Rattle.toml_fields.specs.Keys.{least_unknown}
 use Rattle.toml_fields.specs.declared.kind.Kind.TheVariants as kind
-use Rattle.job_plan.specs.Plans.{Plan, session, words}
+use Rattle.plan_model.specs.Plans.{Plan, session, words}
 use Rattle.session_slots.specs.Counts.{owned}
 use Rattle.list_laws.specs.Checks.{◌answers◌, first_fault, or_fault}
 use Rattle.party_file.specs.declared.field.PartyField.TheVariants as field

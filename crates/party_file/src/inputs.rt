@@ -2,7 +2,7 @@
 ghost use Rattle.std.specs.Prelude.{◌≡◌, ◌⊎◌, ◌<◌, ◌≤◌, [], Some, None, IfOk, IfErr, length, map};
 ghost use Rattle.toml.specs.View.{view};
 ghost use Rattle.toml_fields.specs.Fields.{text_of};
-ghost use Rattle.job_plan.specs.InputWords.{session_words};
+ghost use Rattle.plan_model.specs.InputWords.{session_words};
 ghost use Rattle.list_laws.specs.Checks.{first_fault};
 ghost use Rattle.party_file.specs.Table.{numbers_in, session_checks, input_checks};
 ghost use Rattle.party_file.specs.declared.fault.PartyFault.TheVariants.{Memory};

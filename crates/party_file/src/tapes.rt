@@ -5,7 +5,7 @@ ghost use Rattle.tape_words.specs.Cuts.{cut};
 ghost use Rattle.tape_words.specs.declared.tape.TapeFault.TheVariants.{WordOutOfRing};
 ghost use Rattle.tape_words.specs.Seeds.{seed_word};
 ghost use Rattle.toml.specs.View.{table_view};
-ghost use Rattle.job_plan.specs.Plans.{words};
+ghost use Rattle.plan_model.specs.Plans.{words};
 ghost use Rattle.list_laws.specs.Checks.{first_fault};
 ghost use Rattle.party_file.specs.Table.{numbers_in, out_of_ring, word_counts, tape_checks, seed_checks, seed_in, random_checks, tapes_of};
 ghost use Rattle.party_file.specs.declared.fault.PartyFault.TheVariants.{Memory};
@@ -21,7 +21,7 @@ use toml::Table;
 use toml_fields::{has_field, text_at};
 
 /// How many words the party draws in each session.
-#[tactic(auto, using(job_plan::proofs::GrownLists::listed_push), unfolding(crate::specs::Table::word_counts))]
+#[tactic(auto, using(plan_model::proofs::GrownLists::listed_push), unfolding(crate::specs::Table::word_counts))]
 fn word_counts(alloc: Global, plan: &Plan, party: u32) -> Result<Vec<u32>, AllocError>
     requires { party < plan.now.parties }
     ensures { IfOk result (λ counts. counts.items ≡ word_counts plan.now party) }
@@ -79,7 +79,7 @@ fn read_tape(alloc: Global, plan: &Plan, party: u32, text: &str) -> Result<Vec<T
 }
 
 /// The tapes of a seed: each session has a stream of its own.
-#[tactic(auto, using(job_plan::proofs::GrownLists::listed_push))]
+#[tactic(auto, using(plan_model::proofs::GrownLists::listed_push))]
 fn seed_tapes(
     alloc: Global,
     plan: &Plan,

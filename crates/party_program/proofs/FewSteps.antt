@@ -5,16 +5,16 @@ use Rattle.std.proofs.lemmas.Bool.{cases_Bool, cond-true, cond-false}
 use mathlib.Core.Logic.{inl, inr}
 use Rattle.list_laws.specs.Lists.{only_if}
 use Rattle.secret_sharing.specs.Schemes.{has_pair}
-use Rattle.job_plan.specs.declared.pattern.Transfer.{Transfer}
-use Rattle.job_plan.specs.declared.pattern.Pattern.TheVariants.{Multiplied}
-use Rattle.job_plan.specs.Plans.{Plan, scheme}
-use Rattle.job_plan.specs.Patterns.{transfers}
-use Rattle.job_plan.specs.Sound.{IsSound}
-use Rattle.party_program.specs.declared.half.Half.TheVariants.{Head, Tail}
+use Rattle.plan_model.specs.declared.pattern.Transfer.{Transfer}
+use Rattle.plan_model.specs.declared.pattern.Pattern.TheVariants.{Multiplied}
+use Rattle.plan_model.specs.Plans.{Plan, scheme}
+use Rattle.plan_model.specs.Patterns.{transfers}
+use Rattle.plan_model.specs.Sound.{IsSound}
+use Rattle.program_model.specs.declared.half.Half.TheVariants.{Head, Tail}
 use Rattle.party_program.specs.declared.step.Step.{Step}
 use Rattle.party_program.specs.declared.step.Step.TheVariants.{Own, Deal, Sum}
 use Rattle.party_program.specs.PartySteps.{steps, steps_before, post_steps, take_steps, post_step, take_step, is_from, is_to}
-use Rattle.party_program.proofs.FewTransfers.{few_transfers}
+use Rattle.plan_model.proofs.FewTransfers.{few_transfers}
 
 -- what passes of a list of transfers is no longer than the transfers
 passing_few : (f : ℕ × Transfer → Step) (test : ℕ × Transfer → Bool) (j : ℕ) (ls : List Transfer) → length (map f (filter test (enumerate_from j ls))) ≤ length ls

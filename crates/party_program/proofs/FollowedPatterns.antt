@@ -3,33 +3,34 @@ use Rattle.std.proofs.Common.{◌≡◌, ℕ, suc, ◌+◌, ◌<◌, Bool, true,
 use Rattle.std.specs.Prelude.{slice_index_or}
 use Rattle.std.specs.List.{range_with_len, filter, enumerate_from}
 use Rattle.std.proofs.lemmas.Bool.{cases_Bool, cond-true, cond-false}
-use Rattle.std.proofs.lemmas.List.{map-append, length-map, get_or-map}
+use Rattle.std.proofs.lemmas.List.{map-append, get_or-map}
 use mathlib.Core.Logic.{inl, inr}
 use Rattle.list_laws.specs.Lists.{only_if}
 use Rattle.circuit_model.specs.Circuits.{is_product}
 use Rattle.secret_sharing.specs.Schemes.{has_pair}
-use Rattle.job_plan.specs.declared.key.Key.{Key}
-use Rattle.job_plan.specs.declared.pattern.Transfer.{Transfer}
-use Rattle.job_plan.specs.declared.pattern.Pattern.{Pattern}
-use Rattle.job_plan.specs.declared.pattern.Pattern.TheVariants.{Silent, Multiplied, Joined}
+use Rattle.plan_model.specs.declared.key.Key.{Key}
+use Rattle.plan_model.specs.declared.pattern.Transfer.{Transfer}
+use Rattle.plan_model.specs.declared.pattern.Pattern.{Pattern}
+use Rattle.plan_model.specs.declared.pattern.Pattern.TheVariants.{Silent, Multiplied, Joined}
 use Rattle.session_slots.specs.declared.source.Source.{Source}
 use Rattle.session_slots.specs.declared.source.Source.TheVariants.{Given, Earlier}
 use Rattle.session_slots.specs.Sessions.{Slot, gate, given_by, source}
-use Rattle.job_plan.specs.Plans.{IsPlan, Plan, keeping_slot, scheme, session, slot, slots, opens_to, least_held}
+use Rattle.plan_model.specs.Plans.{IsPlan, Plan, keeping_slot, scheme, session, slot, slots, opens_to, least_held}
 use Rattle.session_slots.specs.Sessions.Slot.{Input, At_gate, Output, Mask, Mask_product, Masked, Kept}
-use Rattle.job_plan.specs.Numbers.{message, no_key, deals_before}
-use Rattle.job_plan.specs.Firsts.{count, first, numbers}
-use Rattle.job_plan.specs.Patterns.{input_pattern, named, transfers, pattern, pattern_at}
-use Rattle.job_plan.proofs.KeptPlaces.{kept_in}
-use Rattle.job_plan.proofs.SlotMessages.{message_at}
-use Rattle.job_plan.proofs.SlotPatterns.{map_only_if, slots_follow_patterns}
-use Rattle.party_program.specs.declared.half.Half.{Half}
-use Rattle.party_program.specs.declared.half.Half.TheVariants.{Head, Tail}
-use Rattle.party_program.specs.declared.program.Instruction.{Instruction}
-use Rattle.party_program.specs.declared.program.Instruction.TheVariants as instruction
+use Rattle.plan_model.specs.Numbers.{message, no_key, deals_before}
+use Rattle.plan_model.specs.Firsts.{first, numbers}
+use Rattle.plan_model.specs.Patterns.{input_pattern, named, transfers, pattern, pattern_at}
+use Rattle.plan_model.proofs.FewTransfers.{length-transfers}
+use Rattle.plan_model.proofs.KeptPlaces.{kept_in}
+use Rattle.plan_model.proofs.SlotMessages.{message_at}
+use Rattle.plan_model.proofs.SlotPatterns.{map_only_if, slots_follow_patterns}
+use Rattle.program_model.specs.declared.half.Half.{Half}
+use Rattle.program_model.specs.declared.half.Half.TheVariants.{Head, Tail}
+use Rattle.program_model.specs.declared.instruction.Instruction.{Instruction}
+use Rattle.program_model.specs.declared.instruction.Instruction.TheVariants as instruction
 use Rattle.party_program.specs.declared.step.Step.{Step}
 use Rattle.party_program.specs.declared.step.Step.TheVariants.{Draw, Deal, Own, Deliver}
-use Rattle.party_program.specs.Programs as programs
+use Rattle.program_model.specs.Programs as programs
 use Rattle.party_program.specs.PartySteps.{steps_before, steps_after, post_steps, take_steps, post_step, take_step, is_from, is_to, steps, taken_transfers, placed}
 
 map_map : {A B C : Type 0} (f : B → C) (g : A → B) (xs : List A) → map f (map g xs) ≡ map (λ x. f (g x)) xs
@@ -119,14 +120,11 @@ module _ (plan : Plan) (p r m k deals : ℕ) (lr : r < length plan.sessions) (lm
   abbrev there : Pattern
   there = pattern_at plan r m
 
-  pub length-transfers : count plan r m ≡ length (transfers plan there)
-  length-transfers = ap length (slots_follow_patterns plan r m (slot plan r m)) ∙ length-map (transfers plan there) (named r m)
-
   -- the message of a transfer
   transfer_is : (i n : ℕ) (d : Transfer) → i < length (transfers plan there) → n ≡ first plan r m + i → message plan n ≡ named r m (slice_index_or (transfers plan there) i d)
   transfer_is i n d l e =
       ap (message plan) e
-      ∙ message_at plan r m lr lm i (let long = length-transfers in omega arith)
+      ∙ message_at plan r m lr lm i (let long = length-transfers plan r m in omega arith)
       ∙ ap (λ xs. slice_index_or xs i no_key) (slots_follow_patterns plan r m (slot plan r m))
       ∙ get_or-map (named r m) (transfers plan there) i d no_key l
 
@@ -135,7 +133,7 @@ module _ (plan : Plan) (p r m k deals : ℕ) (lr : r < length plan.sessions) (lm
       → map f (filter test (numbers plan r m)) ≡ map named_there (map g (filter check (enumerate_from 0 (transfers plan there))))
   numbers_are f test g check h =
       let none : first plan r m + 0 ≡ first plan r m = omega arith in
-      ap (λ z. map f (filter test (range_with_len (first plan r m) z))) length-transfers
+      ap (λ z. map f (filter test (range_with_len (first plan r m) z))) (length-transfers plan r m)
       ∙ ap (λ z. map f (filter test (range_with_len z (length (transfers plan there))))) (sym none)
       ∙ passing f test (λ e. named_there (g e)) check (first plan r m) 0 (transfers plan there) (λ i n j d l e o. h n j (slice_index_or (transfers plan there) i d) (omega arith) (transfer_is i n d l (omega arith)))
       ∙ sym (map_map named_there g (filter check (enumerate_from 0 (transfers plan there))))

@@ -2,23 +2,23 @@
 use Rattle.std.proofs.Common.{◌≡◌, ℕ, ◌+◌, ◌-◌, ◌<◌, ◌^◌, List, length, sym, ap, ◌∙◌, subst, inl, inr, arith}
 use Rattle.std.specs.Prelude.{slice_index_or}
 use Rattle.std.proofs.lemmas.Bool.{cases_lt}
-use Rattle.job_plan.specs.Plans.{Plan, slots}
-use Rattle.job_plan.proofs.PlanSchemes.{plan_is}
-use Rattle.job_plan.specs.Numbers.{deals_before}
-use Rattle.job_plan.specs.Patterns.{pattern_at}
-use Rattle.job_plan.specs.declared.pattern.Pattern.{Pattern}
-use Rattle.party_program.specs.declared.half.Half.{Half}
-use Rattle.party_program.specs.declared.half.Half.TheVariants.{Head, Tail}
+use Rattle.plan_model.specs.Plans.{Plan, slots}
+use Rattle.plan_model.proofs.PlanSchemes.{plan_is}
+use Rattle.plan_model.specs.Numbers.{deals_before}
+use Rattle.plan_model.specs.Patterns.{pattern_at}
+use Rattle.plan_model.specs.declared.pattern.Pattern.{Pattern}
+use Rattle.program_model.specs.declared.half.Half.{Half}
+use Rattle.program_model.specs.declared.half.Half.TheVariants.{Head, Tail}
 use Rattle.party_program.specs.declared.program.Program.{Program}
-use Rattle.party_program.specs.declared.program.Instruction.TheVariants.{End}
+use Rattle.program_model.specs.declared.instruction.Instruction.TheVariants.{End}
 use Rattle.party_program.specs.declared.step.Step.{Step}
 use Rattle.party_program.specs.declared.step.Step.TheVariants.{Draw}
-use Rattle.party_program.specs.Programs.{first_named, half_program}
+use Rattle.program_model.specs.Programs.{first_named, half_program, instructions_before}
 use Rattle.party_program.specs.PartySteps.{steps, placed, IsPlaced}
-use Rattle.party_program.specs.ProgramPlaces.{instructions_before, halves_before, count_in, OccursIn, IsProgram}
+use Rattle.party_program.specs.ProgramPlaces.{halves_before, count_in, OccursIn, IsProgram}
 use Rattle.party_program.proofs.ProgramPlaces.{before_more, both_before, count_at, length-half, step_fits, step_is}
 use Rattle.party_program.proofs.OccurringPatterns.{occurs_in}
-use Rattle.party_program.proofs.ShortPrograms.{few_instructions}
+use Rattle.program_model.proofs.ShortPrograms.{few_instructions}
 
 -- half a slot has few instructions
 pub few_in_half : (plan : Plan) (own : Program) (is : IsProgram plan own.party own.session own) (half : Half) (k : ℕ) → k < slots plan own.session → length (half_program plan own.party own.session half k) < 4294967296

@@ -5,19 +5,19 @@ use Rattle.std.proofs.lemmas.Bool.{cases_lt}
 use Rattle.std.proofs.lemmas.List.{length-append}
 use Rattle.list_laws.specs.Lists.{only_if}
 use Rattle.secret_sharing.specs.Schemes.{has_pair}
-use Rattle.job_plan.specs.declared.pattern.Pattern.TheVariants.{Silent, Multiplied}
+use Rattle.plan_model.specs.declared.pattern.Pattern.TheVariants.{Silent, Multiplied}
 use Rattle.job_session.specs.Batches.{IsBatch}
-use Rattle.job_plan.specs.Plans.{IsPlan, Plan, scheme, session, slots}
-use Rattle.job_plan.specs.Numbers.{deals_before}
-use Rattle.job_plan.specs.Patterns.{pattern_at}
-use Rattle.party_program.specs.declared.half.Half.{Half}
-use Rattle.party_program.specs.declared.half.Half.TheVariants.{Head, Tail}
-use Rattle.party_program.specs.declared.program.Instruction.TheVariants as instruction
-use Rattle.party_program.specs.declared.program.Instruction.TheVariants.{End}
+use Rattle.plan_model.specs.Plans.{IsPlan, Plan, scheme, session, slots}
+use Rattle.plan_model.specs.Numbers.{deals_before}
+use Rattle.plan_model.specs.Patterns.{pattern_at}
+use Rattle.program_model.specs.declared.half.Half.{Half}
+use Rattle.program_model.specs.declared.half.Half.TheVariants.{Head, Tail}
+use Rattle.program_model.specs.declared.instruction.Instruction.TheVariants as instruction
+use Rattle.program_model.specs.declared.instruction.Instruction.TheVariants.{End}
 use Rattle.party_program.specs.declared.place.Place.{Place}
 use Rattle.party_program.specs.declared.step.Step.{Step}
 use Rattle.party_program.specs.declared.step.Step.TheVariants.{Own, Deal, Linear, Sum}
-use Rattle.party_program.specs.Programs.{first_named, half_program, program, at}
+use Rattle.program_model.specs.Programs.{first_named, half_program, program, at}
 use Rattle.party_program.specs.PartySteps.{post_steps, take_steps, steps, placed}
 use Rattle.party_program.specs.ProgramPlaces.{position_of, count_in, InProduct, IsPlace}
 use Rattle.party_program.proofs.ProgramPlaces.{before_more, count_at, count_past, half_at, in_slot, length-half, ahead_is, step_is}

@@ -5,14 +5,14 @@ use Rattle.std.specs.Int.{from_bool}
 use Rattle.std.specs.Vec.{vec_len}
 use Rattle.list_laws.proofs.JoinedLists.{length-listed}
 use Rattle.list_laws.proofs.Totals.{total_more}
-use Rattle.job_plan.specs.Plans.{Plan, slot, slots, deals_in}
-use Rattle.job_plan.specs.Sound.{IsSound}
-use Rattle.job_plan.proofs.GrownLists.{listed_push}
+use Rattle.plan_model.specs.Plans.{Plan, slot, slots, deals_in}
+use Rattle.plan_model.specs.Sound.{IsSound}
+use Rattle.plan_model.proofs.GrownLists.{listed_push}
 use Rattle.party_program.specs.declared.deals.Tally.{Tally}
-use Rattle.party_program.specs.Programs.{slot_program}
+use Rattle.program_model.specs.Programs.{slot_program}
 use Rattle.party_program.specs.ProgramPlaces.{AreDeals}
-use Rattle.job_plan.specs.Numbers.{deals_before}
-use Rattle.party_program.proofs.ShortPrograms.{few_instructions}
+use Rattle.plan_model.specs.Numbers.{deals_before}
+use Rattle.program_model.proofs.ShortPrograms.{few_instructions}
 
 -- a truth value as a number
 pub as_number : (b : Bool) → from_bool b ≡ (if b then 1 else 0)

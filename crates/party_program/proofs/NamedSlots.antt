@@ -7,19 +7,18 @@ use Rattle.session_slots.specs.declared.source.Source.TheVariants.{Given, Earlie
 use Rattle.session_slots.specs.Sessions.{Slot, gate, readers, slot_list, source}
 use Rattle.session_slots.specs.Sessions.Slot.{Input, At_gate, Output, Mask, Mask_product, Masked, Kept}
 use Rattle.session_slots.specs.SlotNumbers.{first_input}
-use Rattle.job_plan.specs.declared.pattern.Pattern.TheVariants.{Received}
-use Rattle.job_plan.specs.Plans.{IsPlan, Plan, keeping_slot, session, slot, slot_number, slots}
-use Rattle.job_plan.specs.Firsts.{count, first}
-use Rattle.job_plan.specs.Messages.{messages}
-use Rattle.job_plan.specs.Patterns.{input_pattern, transfers, pattern, pattern_at}
-use Rattle.job_plan.specs.Sound.{IsSound}
-use Rattle.job_plan.proofs.KeptPlaces.{kept_in}
-use Rattle.job_plan.proofs.SlotMessages.{first_within}
-use Rattle.job_plan.proofs.Slots.{at_its_number}
-use Rattle.party_program.specs.Programs.{first_in, first_named, first_of_input}
+use Rattle.plan_model.specs.declared.pattern.Pattern.TheVariants.{Received}
+use Rattle.plan_model.specs.Plans.{IsPlan, Plan, keeping_slot, session, slot, slot_number, slots}
+use Rattle.plan_model.specs.Firsts.{first}
+use Rattle.plan_model.specs.Messages.{messages}
+use Rattle.plan_model.specs.Patterns.{input_pattern, pattern, pattern_at}
+use Rattle.plan_model.specs.Sound.{IsSound}
+use Rattle.plan_model.proofs.KeptPlaces.{kept_in}
+use Rattle.plan_model.proofs.SlotMessages.{first_within}
+use Rattle.plan_model.proofs.Slots.{at_its_number}
+use Rattle.program_model.specs.Programs.{first_in, first_named, first_of_input}
 use Rattle.party_program.specs.ProgramPlaces.{AreReceived, IsListed}
-use Rattle.party_program.proofs.FewTransfers.{held_few}
-use Rattle.party_program.proofs.FollowedPatterns.{gate_pattern, length-transfers}
+use Rattle.party_program.proofs.FollowedPatterns.{gate_pattern}
 
 module _ (plan : Plan) (is : IsPlan plan) (s k : ℕ) (ls : s < length plan.sessions) (lk : k < slots plan s) where
   -- the first message that a slot names is one of the plan, or behind the last
@@ -104,10 +103,3 @@ module _ (plan : Plan) (is : IsPlan plan) (s k : ℕ) (lk : k < slots plan s) (c
   found_named received are =
       let listed = are at.wire at.from at.value at.place (is.earlier s at.wire at.from at.value at.place at.carried) at.carried in
       (listed.0, listed.1 ∙ sym (ap (first_in plan s k) at.slot_is ∙ ap (first_of_input plan s k at.wire) at.carried))
-
--- a wire is kept by few messages
-pub few_kept : (plan : Plan) → IsPlan plan → IsSound plan → (s v r c i : ℕ) → source (session plan s) v ≡ Earlier r c i → count plan r (keeping_slot plan s v r) ≤ 768
-few_kept plan is sound s v r c i e =
-    let at = kept_in plan is s v r c i e in
-    let m = keeping_slot plan s v r in
-    omega (arith, length-transfers plan 0 r m 0 0 (omega (arith, at.earlier, at.session_there)) at.slot_there ∙ ap (λ z. length (transfers plan (pattern plan r z))) at.slot_is, held_few plan sound)

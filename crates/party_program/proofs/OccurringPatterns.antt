@@ -6,18 +6,18 @@ use Rattle.std.proofs.lemmas.List.{get_or_default}
 use Rattle.std.proofs.lemmas.List.Elements.{Contains-get_or}
 use Rattle.circuit_model.specs.Circuits.{is_product}
 use Rattle.secret_sharing.specs.Schemes.{has_pair}
-use Rattle.job_plan.specs.declared.pattern.Pattern.{Pattern}
-use Rattle.job_plan.specs.declared.pattern.Pattern.TheVariants.{Opened}
+use Rattle.plan_model.specs.declared.pattern.Pattern.{Pattern}
+use Rattle.plan_model.specs.declared.pattern.Pattern.TheVariants.{Opened}
 use Rattle.session_slots.specs.declared.source.Source.{Source}
 use Rattle.session_slots.specs.declared.source.Source.TheVariants.{Given, Earlier}
 use Rattle.session_slots.specs.Sessions.{Slot, gate, given_by, readers, source}
 use Rattle.session_slots.specs.SoundSessions.{Inside}
-use Rattle.job_plan.specs.Plans.{Plan, scheme, session, slots, deals_in}
+use Rattle.plan_model.specs.Plans.{Plan, scheme, session, slots, deals_in}
 use Rattle.session_slots.specs.Sessions.Slot.{Input, At_gate, Output, Mask, Mask_product, Masked, Kept}
-use Rattle.job_plan.specs.Patterns.{input_pattern, pattern, pattern_at, Occurs}
-use Rattle.job_plan.specs.Sound.{IsSound}
+use Rattle.plan_model.specs.Patterns.{input_pattern, pattern, pattern_at, Occurs}
+use Rattle.plan_model.specs.Sound.{IsSound}
 use Rattle.session_slots.proofs.SessionSlots.{slot_kinds}
-use Rattle.party_program.specs.declared.half.Half.{Half}
+use Rattle.program_model.specs.declared.half.Half.{Half}
 use Rattle.party_program.specs.declared.step.Step.{Step}
 use Rattle.party_program.specs.declared.step_table.StepTable.{StepTable}
 use Rattle.party_program.specs.PartySteps.{deals_in_pattern, steps}

@@ -13,18 +13,18 @@ use Rattle.session_slots.specs.Sessions.Slot.{At_gate, Mask, Mask_product, Maske
 use Rattle.session_slots.specs.SlotNumbers.{first_of_gate, first_of_masks, mask_product_number, prepared_before, session_slot_number}
 use Rattle.session_slots.specs.SoundSessions.{Inside}
 use Rattle.session_slots.proofs.SessionSlots.{number_within, slot_there}
-use Rattle.job_plan.specs.declared.pattern.Pattern.{Pattern}
-use Rattle.job_plan.specs.declared.pattern.Pattern.TheVariants.{Silent, Multiplied, HandedOut, OpenedToAll, Joined}
-use Rattle.job_plan.specs.Plans.{scheme, slots, deals_in}
-use Rattle.job_plan.specs.Patterns.{pattern}
-use Rattle.job_plan.specs.Sound.{IsSound}
-use Rattle.job_plan.proofs.PlanSchemes.{plan_is}
+use Rattle.plan_model.specs.declared.pattern.Pattern.{Pattern}
+use Rattle.plan_model.specs.declared.pattern.Pattern.TheVariants.{Silent, Multiplied, HandedOut, OpenedToAll, Joined}
+use Rattle.plan_model.specs.Plans.{scheme, slots, deals_in}
+use Rattle.plan_model.specs.Patterns.{pattern}
+use Rattle.plan_model.specs.Sound.{IsSound}
+use Rattle.plan_model.proofs.PlanSchemes.{plan_is}
 use Rattle.party_program.specs.declared.deals.SessionSteps.{SessionSteps}
 use Rattle.party_program.specs.declared.deals.ProductCounts.{ProductCounts}
 use Rattle.party_program.specs.declared.deals.Tally.{Tally}
-use Rattle.party_program.specs.declared.half.Half.{Half}
-use Rattle.party_program.specs.declared.half.Half.TheVariants.{Head, Tail}
-use Rattle.party_program.specs.Programs.{head, tail, half_program}
+use Rattle.program_model.specs.declared.half.Half.{Half}
+use Rattle.program_model.specs.declared.half.Half.TheVariants.{Head, Tail}
+use Rattle.program_model.specs.Programs.{head, tail, half_program}
 use Rattle.party_program.specs.PartySteps.{steps}
 use Rattle.party_program.specs.ProgramPlaces.{AreDealsTo, AreProductCounts, AreSessionSteps, HasInSlot, HasInThree, HasInTwo, session_of, steps_in}
 use Rattle.party_program.proofs.FollowedPatterns.{gate_pattern}

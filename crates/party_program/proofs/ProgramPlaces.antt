@@ -10,24 +10,25 @@ use Rattle.list_laws.proofs.JoinedLists.{length-joined, joined_place, total_with
 use Rattle.session_slots.specs.Sessions.{Session, session_slots}
 use Rattle.job_session.specs.Batches.{batch, is_last, IsBatch}
 use Rattle.job_session.proofs.BatchOrder.{batch_within}
-use Rattle.party_program.proofs.BegunBatches.{begun, begun_is, begun_end}
-use Rattle.job_plan.specs.Plans.{IsPlan, Plan, session, slots}
-use Rattle.job_plan.specs.Numbers.{deals_before}
-use Rattle.job_plan.specs.Patterns.{pattern_at}
-use Rattle.job_plan.specs.Sound.{IsSound}
-use Rattle.party_program.specs.declared.half.Half.{Half}
-use Rattle.party_program.specs.declared.half.Half.TheVariants.{Head, Tail}
-use Rattle.party_program.specs.declared.program.Instruction.{Instruction}
-use Rattle.party_program.specs.declared.program.Instruction.TheVariants.{End}
+use Rattle.program_model.proofs.BegunBatches.{begun, begun_is, begun_end}
+use Rattle.plan_model.specs.Plans.{IsPlan, Plan, session, slots}
+use Rattle.plan_model.specs.Numbers.{deals_before}
+use Rattle.plan_model.specs.Patterns.{pattern_at}
+use Rattle.plan_model.specs.Sound.{IsSound}
+use Rattle.program_model.specs.declared.half.Half.{Half}
+use Rattle.program_model.specs.declared.half.Half.TheVariants.{Head, Tail}
+use Rattle.program_model.specs.declared.instruction.Instruction.{Instruction}
+use Rattle.program_model.specs.declared.instruction.Instruction.TheVariants.{End}
 use Rattle.party_program.specs.declared.program.Program.{Program}
 use Rattle.party_program.specs.declared.place.Place.{Place}
 use Rattle.party_program.specs.declared.step.Step.{Step}
 use Rattle.party_program.specs.declared.step.Step.TheVariants.{Draw, Deal, Own, Post, Take, Linear, Sum, Open, Join, Deliver}
-use Rattle.party_program.specs.Programs.{first_named, head, tail, tails, turn, half_program, program, at}
+use Rattle.program_model.specs.Programs.{first_named, head, tail, tails, turn, half_program, program, at, instructions_before}
 use Rattle.party_program.specs.PartySteps.{steps, placed, IsPlaced}
-use Rattle.party_program.specs.ProgramPlaces.{instructions_before, halves_before, position_of, count_in, IsPlace, IsProgram}
+use Rattle.party_program.specs.ProgramPlaces.{halves_before, position_of, count_in, IsPlace, IsProgram}
 use Rattle.party_program.proofs.FollowedPatterns.{half_program_follows}
-use Rattle.party_program.proofs.FewTransfers.{few_transfers, few_taken}
+use Rattle.plan_model.proofs.FewTransfers.{few_transfers}
+use Rattle.party_program.proofs.FewTakes.{few_taken}
 use Rattle.party_program.proofs.NamedSlots.{few_named}
 use Rattle.party_program.proofs.PlacedSteps.{steps_placed}
 

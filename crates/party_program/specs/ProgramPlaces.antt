@@ -3,19 +3,19 @@ use Rattle.std.specs.Prelude.{◌≡◌, ℕ, ◌+◌, ◌<◌, ◌≤◌, nat_l
 use Rattle.std.specs.Global.{Vec}
 use Rattle.mask_list.specs.Masks.{AreMasksOf}
 use Rattle.list_laws.specs.Lists.{total, listed}
-use Rattle.job_plan.specs.declared.pattern.Pattern.{Pattern}
-use Rattle.job_plan.specs.declared.pattern.Pattern.TheVariants.{Silent, Dealt, Multiplied, Opened, HandedOut, OpenedToAll, Joined, Held, Received}
+use Rattle.plan_model.specs.declared.pattern.Pattern.{Pattern}
+use Rattle.plan_model.specs.declared.pattern.Pattern.TheVariants.{Silent, Dealt, Multiplied, Opened, HandedOut, OpenedToAll, Joined, Held, Received}
 use Rattle.session_slots.specs.declared.source.Source.TheVariants.{Earlier}
 use Rattle.session_slots.specs.Sessions.{Session, readers, source}
 use Rattle.job_session.specs.Batches.{IsInBatch}
 use Rattle.secret_sharing.specs.Schemes.{has_pair}
-use Rattle.job_plan.specs.Plans.{Plan, deals_in, keeping_slot, scheme, session, slot, slots}
-use Rattle.job_plan.specs.Numbers.{deals_before}
-use Rattle.job_plan.specs.Firsts.{first}
-use Rattle.job_plan.specs.Patterns.{pattern_at, Occurs}
-use Rattle.job_plan.specs.Sound.{IsSound}
-use Rattle.party_program.specs.declared.half.Half.{Half}
-use Rattle.party_program.specs.declared.half.Half.TheVariants.{Head, Tail}
+use Rattle.plan_model.specs.Plans.{Plan, deals_in, keeping_slot, scheme, session, slot, slots}
+use Rattle.plan_model.specs.Numbers.{deals_before}
+use Rattle.plan_model.specs.Firsts.{first}
+use Rattle.plan_model.specs.Patterns.{pattern_at, Occurs}
+use Rattle.plan_model.specs.Sound.{IsSound}
+use Rattle.program_model.specs.declared.half.Half.{Half}
+use Rattle.program_model.specs.declared.half.Half.TheVariants.{Head, Tail}
 use Rattle.party_program.specs.declared.program.Program.{Program}
 use Rattle.party_program.specs.declared.place.Place.{Place}
 use Rattle.party_program.specs.declared.deals.ProductCounts.{ProductCounts}
@@ -23,11 +23,7 @@ use Rattle.party_program.specs.declared.deals.SessionSteps.{SessionSteps}
 use Rattle.party_program.specs.declared.deals.Tally.{Tally}
 use Rattle.party_program.specs.declared.step_table.StepTable.{StepTable}
 use Rattle.party_program.specs.PartySteps.{steps}
-use Rattle.party_program.specs.Programs.{first_named, half_program, slot_program}
-
--- how many instructions of p stand in the first k slots
-abbrev pub instructions_before : Plan → ℕ → ℕ → ℕ → ℕ
-instructions_before plan p s k = total k (λ j. length (slot_program plan p s j))
+use Rattle.program_model.specs.Programs.{first_named, half_program, instructions_before, slot_program}
 
 -- how many instructions stand in this half of the first k slots
 abbrev pub halves_before : Plan → ℕ → ℕ → Half → ℕ → ℕ

@@ -1,14 +1,14 @@
 //! How many deals stand before each slot.
 ghost use Rattle.std.specs.Prelude.{◌≡◌, ℕ, ◌+◌, ◌*◌, ◌<◌, ◌≤◌, true, false, IfOk, length};
 ghost use Rattle.secret_sharing.specs.Schemes.{has_pair};
-ghost use Rattle.job_plan.specs.Plans as plans;
+ghost use Rattle.plan_model.specs.Plans as plans;
 ghost use Rattle.session_slots.specs.Sessions.{owners};
 ghost use Rattle.session_slots.specs.SlotNumbers.{first_input, first_of_gate, prepared_before};
-ghost use Rattle.job_plan.specs.Plans.{scheme, slots};
+ghost use Rattle.plan_model.specs.Plans.{scheme, slots};
 ghost use Rattle.party_program.specs.PartySteps.{deals_in_pattern};
-ghost use Rattle.party_program.specs.ProgramPlaces.{AreDealsTo, AreSessionSteps, instructions_before, session_of};
-ghost use Rattle.party_program.specs.ProgramPlaces.{AreProductCounts, HasInSlot, HasInThree, HasInTwo};
-ghost use Rattle.job_plan.specs.Numbers.{deals_before};
+ghost use Rattle.party_program.specs.ProgramPlaces.{AreDealsTo, AreSessionSteps, session_of, AreProductCounts, HasInSlot, HasInThree, HasInTwo};
+ghost use Rattle.program_model.specs.Programs.{instructions_before};
+ghost use Rattle.plan_model.specs.Numbers.{deals_before};
 ghost use Rattle.list_laws.specs.Lists.{listed};
 
 use crate::step_table::StepTable;

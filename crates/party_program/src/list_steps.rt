@@ -1,13 +1,13 @@
 //! Lists what a party does in a half of a slot of a pattern.
 ghost use Rattle.std.specs.Prelude.{◌≡◌, ◌<◌, ◌++◌, IfOk, OnOk};
-ghost use Rattle.job_plan.specs.Patterns.{Occurs};
+ghost use Rattle.plan_model.specs.Patterns.{Occurs};
 ghost use Rattle.party_program.specs.PartySteps.{steps_before, post_steps, taken_transfers, take_steps, steps_after, steps};
 
-use crate::half::Half;
 use crate::step::Step;
 use crate::step_list::StepList;
 use job_plan::{Pattern, Plan, Transfer};
 use party_set::has_party;
+use program_model::Half;
 use std::alloc::{AllocError, Global};
 
 /// What party `p` does in this half of a slot of this pattern.

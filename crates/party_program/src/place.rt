@@ -1,11 +1,11 @@
 //! Places in a program.
 ghost use Rattle.std.specs.Prelude.{◌≡◌, ℕ, ◌+◌, ◌<◌, ◌==◌, ◌&&◌, ◌≤◌, nat_lt, not, length};
-ghost use Rattle.job_plan.specs.Plans as plans;
-ghost use Rattle.party_program.specs.Programs.{program};
+ghost use Rattle.plan_model.specs.Plans as plans;
+ghost use Rattle.program_model.specs.Programs.{program};
 ghost use Rattle.party_program.specs.ProgramPlaces.{IsPlace};
 
-use crate::half::Half;
 use job_plan::Pattern;
+use program_model::Half;
 
 /// Where an instruction stands in a program: the half of its slot, and how many steps of that come before it. Who keeps
 /// it needs no search for the next instruction.

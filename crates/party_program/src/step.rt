@@ -2,7 +2,7 @@
 ghost use Rattle.std.specs.Prelude.{◌≡◌, ◌-◌, ◌^◌};
 ghost use Rattle.party_program.specs.PartySteps.{placed, IsPlaced};
 
-use crate::program::Instruction;
+use program_model::Instruction;
 
 /// A step of a party in a slot. It depends on the slot's pattern alone, so it names a message by its place among the
 /// transfers of the pattern. It takes four bytes.

@@ -2,16 +2,16 @@
 ghost use Rattle.std.specs.Prelude.{◌≡◌, ℕ, ◌<◌, IfOk, map};
 ghost use Rattle.std.specs.List.{Contains};
 ghost use Rattle.list_laws.specs.Lists.{listed};
-ghost use Rattle.job_plan.specs.declared.pattern.Pattern.TheVariants.{Dealt, Multiplied, Opened, HandedOut, OpenedToAll, Joined};
-ghost use Rattle.job_plan.specs.Patterns.{Occurs};
+ghost use Rattle.plan_model.specs.declared.pattern.Pattern.TheVariants.{Dealt, Multiplied, Opened, HandedOut, OpenedToAll, Joined};
+ghost use Rattle.plan_model.specs.Patterns.{Occurs};
 ghost use Rattle.party_program.specs.PartySteps.{steps};
 
-use crate::half::Half;
 use crate::list_steps::list_steps;
 use crate::step::Step;
 use crate::step_list::StepList;
 use job_plan::{Pattern, Plan};
 use mask_list::MaskList;
+use program_model::Half;
 use std::alloc::{AllocError, Global};
 
 /// The steps of a party in the heads of a session's slots, or in their tails, for each pattern: of a linear gate, of a
@@ -34,9 +34,9 @@ pub(crate) struct StepTable {
 
 impl StepTable {
     ghost use Rattle.std.specs.Prelude.{◌≡◌, ℕ, ◌<◌, IfOk, length};
-    ghost use Rattle.job_plan.specs.Plans as plans;
+    ghost use Rattle.plan_model.specs.Plans as plans;
     ghost use Rattle.party_program.specs.PartySteps.{steps};
-    ghost use Rattle.party_program.specs.declared.half.Half as halves;
+    ghost use Rattle.program_model.specs.declared.half.Half as halves;
     ghost use Rattle.party_program.specs.ProgramPlaces.{AreSteps, OccursIn};
 
     /// The steps of party `p` in this half of the slots of session `s`.

@@ -8,9 +8,16 @@ use Rattle.std.proofs.lemmas.Bool.Decides.{eqb_tells}
 use Rattle.std.proofs.Math.Pow.{pow-lt, pow_mono}
 use Rattle.std.proofs.Math.Nat.{mod-eq_of_lt}
 use Rattle.std.proofs.lemmas.Bool.{false_from_ne_true}
-use Rattle.list_laws.proofs.Tests.{or_true, or_false}
 use Rattle.party_set.specs.Parties.{has_party, with_party, within, is_all, IsLeastOutside}
 use Rattle.party_set.proofs.EveryNumber.{every_from, every_at}
+
+or_true : (a : Bool) → (a || true) ≡ true
+or_true true = refl
+or_true false = refl
+
+or_false : (a : Bool) → (a || false) ≡ a
+or_false true = refl
+or_false false = refl
 
 -- `1 << n`
 pub power_is : (n : ℕ) → n ≤ 12 → 1 * 2 ^ n % 2 ^ 32 ≡ 2 ^ n

@@ -14,12 +14,12 @@ use Rattle.session_slots.specs.Sessions.{Slot, gate, kept_wire, operand, output_
 use Rattle.session_slots.specs.Sessions.Slot.{Input, At_gate, Output, Mask, Mask_product, Masked, Kept}
 use Rattle.session_slots.specs.SoundSessions.{Inside}
 use Rattle.session_slots.proofs.SessionSlots.{slot_there}
-use Rattle.job_plan.specs.declared.key.Key.{Key}
-use Rattle.job_plan.specs.InputWords.{InputLists}
-use Rattle.job_plan.specs.Messages.{messages}
-use Rattle.job_plan.specs.Numbers.{no_key}
-use Rattle.job_plan.specs.Plans.{given_before, is_holder, least_held, holder_of, place, scheme, session, slot_number}
-use Rattle.job_plan.proofs.DistinctMessages.{every_place}
+use Rattle.plan_model.specs.declared.key.Key.{Key}
+use Rattle.plan_model.specs.InputWords.{InputLists}
+use Rattle.plan_model.specs.Messages.{messages}
+use Rattle.plan_model.specs.Numbers.{no_key}
+use Rattle.plan_model.specs.Plans.{given_before, is_holder, least_held, holder_of, place, scheme, session, slot_number}
+use Rattle.plan_model.proofs.DistinctMessages.{every_place}
 use Rattle.share_world.specs.Locals.{kept_key, key_at, local_deal, local_excess, local_mask, local_mask_product, local_opened, local_product, local_run, local_source, local_start, local_word, local_word_in}
 use Rattle.share_world.specs.Worlds.{World, input_of, mask, source_input, tape_word}
 use Rattle.share_world.proofs.GoingMessages.{Goes}

@@ -10,9 +10,9 @@ use Rattle.session_slots.specs.Sessions.Slot.{Input, At_gate, Output, Mask, Mask
 use Rattle.session_slots.specs.SlotNumbers.{first_input, session_slot_number}
 use Rattle.session_slots.specs.SoundSessions.{Inside}
 use Rattle.session_slots.proofs.SessionSlots.{masks_before_product, product_before_inputs, slot_count, slot_kinds, slots_are_numbered}
-use Rattle.job_plan.specs.declared.key.Key.{Key}
-use Rattle.job_plan.specs.InputWords.{InputLists}
-use Rattle.job_plan.specs.Plans.{holder_of, scheme, session, slot}
+use Rattle.plan_model.specs.declared.key.Key.{Key}
+use Rattle.plan_model.specs.InputWords.{InputLists}
+use Rattle.plan_model.specs.Plans.{holder_of, scheme, session, slot}
 use Rattle.share_world.specs.Locals.{key_at, local_mask, local_word_in}
 use Rattle.share_world.specs.Worlds.{World, mask, tape_word, word_in}
 use Rattle.posting_laws.specs.Preparation.{PreparationIsFirst, PreparedAlone, PreparedWordsStay, SameCameEarly, is_preparation}

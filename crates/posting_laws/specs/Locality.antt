@@ -1,9 +1,9 @@
 -- That what a party computes by itself is of its own: its inputs, its tape, and the words that came to it.
 use Rattle.std.specs.Prelude.{◌≡◌, ℕ, ◌<◌, List, [], length, slice_index_or}
-use Rattle.job_plan.specs.InputWords.{InputLists}
-use Rattle.job_plan.specs.Messages.{messages}
-use Rattle.job_plan.specs.Numbers.{message}
-use Rattle.job_plan.specs.declared.key.Key.{Key}
+use Rattle.plan_model.specs.InputWords.{InputLists}
+use Rattle.plan_model.specs.Messages.{messages}
+use Rattle.plan_model.specs.Numbers.{message}
+use Rattle.plan_model.specs.declared.key.Key.{Key}
 use Rattle.share_world.specs.Locals.{local_output, local_word}
 use Rattle.share_world.specs.Worlds.{World}
 

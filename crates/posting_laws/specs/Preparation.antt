@@ -4,9 +4,9 @@ use Rattle.std.specs.Prelude.{◌≡◌, ℕ, ◌<◌, Bool, true, false, nat_lt
 use Rattle.session_slots.specs.Sessions.{Session, Slot, session_slot, session_slots}
 use Rattle.session_slots.specs.Sessions.Slot.{Mask, Mask_product}
 use Rattle.session_slots.specs.SlotNumbers.{first_input}
-use Rattle.job_plan.specs.InputWords.{InputLists}
-use Rattle.job_plan.specs.Plans.{Plan, session}
-use Rattle.job_plan.specs.declared.key.Key.{Key}
+use Rattle.plan_model.specs.InputWords.{InputLists}
+use Rattle.plan_model.specs.Plans.{Plan, session}
+use Rattle.plan_model.specs.declared.key.Key.{Key}
 use Rattle.share_world.specs.Locals.{local_word}
 use Rattle.share_world.specs.Worlds.{World, word}
 

@@ -1,25 +1,21 @@
 -- Each pair of summands is one party's duty.
 use Rattle.std.proofs.Common.{◌≡◌, ◌≢◌, ℕ, ◌+◌, ◌*◌, ◌/◌, ◌%◌, ◌<◌, inl, inr, Bool, true, false, not, ◌&&◌, ◌||◌, cond, nat_eq, if◌then◌else◌, Option, Some, None, List, [], ◌∷◌, ◌++◌, length, refl, sym, ◌∙◌, get_or, ap, subst, arith, eq-eqb, ne_eqb, append_assoc, append-nil}
 use Rattle.std.specs.Prelude.{slice_index, MatchOption, IsSome}
-use Rattle.std.proofs.lemmas.Bool.{cond-true, cond-false, cases_eq, and_parts}
+use Rattle.std.proofs.lemmas.Bool.{cond-true, cond-false, cases_eq}
 use Rattle.std.proofs.lemmas.Nat.{div-mul-add, mod-mul-add, mul-add-lt}
 use Rattle.std.proofs.lemmas.List.{get_or_default}
-use Rattle.std.proofs.Math.Pow.{pow-lt}
 use Rattle.list_laws.proofs.JoinedLists.{joined_eq, joined_more}
 use Rattle.list_laws.specs.Lists.{only_if}
 use Rattle.list_laws.proofs.Totals.{total_eq, total_zero, total_pick}
-use Rattle.secret_sharing.specs.Schemes.{has_pair, IsScheme}
+use Rattle.secret_sharing.specs.Schemes.{has_pair}
 use Rattle.party_set.specs.Parties.{Structure, Members, IsAntichain, IsQ2, IsUnion, IsLeastOutside, has_party, is_all, covers}
-use Rattle.party_set.proofs.EveryNumber.{every_from, every_at, every_not}
+use Rattle.party_set.proofs.EveryNumber.{every_from, every_at}
 use Rattle.share_layout.specs.Layouts.{holds, IsLeastParty}
-use Rattle.share_layout.proofs.Holders.{least_party_is, least_party_of}
-use Rattle.product_duty.specs.Duties.{duty, pairs_in_row, pairs_where, pairs_of, scheme_of, times, EachIsDuty, IsTable}
+use Rattle.share_layout.proofs.Holders.{least_party_is}
+use Rattle.product_duty.specs.Duties.{pairs_in_row, pairs_where, pairs_of, times, EachIsDuty, IsTable}
+use Rattle.secret_sharing.specs.Duties.{duty, scheme_of}
+use Rattle.secret_sharing.proofs.PairDuties.{duty_holds, outside_both}
 use Rattle.product_duty.proofs.JoinedLists.{is_filled, filled_joined, filled_only_if, some_below_eq, count_joined}
-
-outside_both : (a b : Bool) → (a || b) ≡ false → (not a && not b) ≡ true
-outside_both false false e = refl
-outside_both false true e = cc
-outside_both true b e = cc
 
 inside_one : (a b : Bool) → (a || b) ≡ true → (not a && not b) ≡ false
 inside_one true b e = refl
@@ -27,12 +23,6 @@ inside_one false true e = refl
 inside_one false false e = cc
 
 -- ---- the least party that holds both
-
-pub duty_holds : (s : Structure) → IsQ2 s → (i j : ℕ) → i < length s.groups → j < length s.groups → IsLeastParty s (λ p. holds s p i && holds s p j) (duty s i j)
-duty_holds s q2 i j li lj =
-    let found : (p : ℕ) × (p < s.parties) × ((has_party (slice_index s.groups i) p || has_party (slice_index s.groups j) p) ≡ false) =
-    every_not s.parties (λ p. has_party (slice_index s.groups i) p || has_party (slice_index s.groups j) p) (q2.no_cover i j li lj) in
-    least_party_of s (λ p. holds s p i && holds s p j) found.0 found.1 (outside_both _ _ found.2)
 
 -- u is the union of groups i and j
 pub record IsEither (s : Structure) (i j : ℕ) (u : Members) : Type 0 where
@@ -146,15 +136,6 @@ each_duty s antichain q2 i j li lj =
       lists = λ p. times_where (duty s) p (length s.groups) i j li lj;
       once = total_eq s.parties _ _ (λ p l. times_where (duty s) p (length s.groups) i j li lj) ∙ total_pick s.parties (duty s i j) 1 holder.party;
     }
-
-pub scheme : (bits : ℕ) (s : Structure) → 0 < bits → IsAntichain s → IsQ2 s → IsScheme (scheme_of bits s)
-scheme bits s l antichain q2 = record {
-  modulus = pow-lt {i = 0} {j = bits} l;
-  shares = antichain.some_group;
-  duty = λ i j li lj. (duty_holds s q2 i j li lj).party;
-  first = λ i j li lj. (and_parts (holds s (duty s i j) i) (holds s (duty s i j) j) (duty_holds s q2 i j li lj).passes).0;
-  second = λ i j li lj. (and_parts (holds s (duty s i j) i) (holds s (duty s i j) j) (duty_holds s q2 i j li lj).passes).1;
-}
 
 -- ---- the steps of the loops
 

@@ -1,18 +1,9 @@
--- Which party multiplies which pair of summands (Maurer 2006).
-use Rattle.std.specs.Prelude.{◌≡◌, ℕ, ◌+◌, ◌*◌, ◌^◌, ◌<◌, ◌&&◌, nat_eq, if◌then◌else◌, List, [], ◌∷◌, length, slice_index, slice_index_or, count_by}
+-- The pairs of summands that each party multiplies (Maurer 2006).
+use Rattle.std.specs.Prelude.{◌≡◌, ℕ, ◌+◌, ◌*◌, ◌<◌, ◌&&◌, nat_eq, if◌then◌else◌, List, [], ◌∷◌, length, slice_index, slice_index_or, count_by}
 use Rattle.list_laws.specs.Lists.{total, joined, only_if}
-use Rattle.secret_sharing.specs.Schemes.{Scheme}
+use Rattle.secret_sharing.specs.Duties.{duty}
 use Rattle.party_set.specs.Parties.{Structure, IsAntichain, IsQ2}
-use Rattle.share_layout.specs.Layouts.{holds, least_party, IsLeastParty}
-
--- the least party that holds summands i and j
-abbrev pub duty : Structure → ℕ → ℕ → ℕ
-duty s i j = least_party s (λ p. holds s p i && holds s p j)
-
--- the sharing that a structure makes, in the ring of `bits` bits
-abbrev pub scheme_of : ℕ → Structure → Scheme
-scheme_of bits s =
-    record { modulus = 2 ^ bits; parties = s.parties; shares = length s.groups; holds = holds s; duty = duty s }
+use Rattle.share_layout.specs.Layouts.{holds, IsLeastParty}
 
 -- the pairs (i, 0) to (i, m - 1) at which f gives p
 abbrev pub pairs_in_row : (ℕ → ℕ → ℕ) → ℕ → ℕ → ℕ → List (ℕ × ℕ)

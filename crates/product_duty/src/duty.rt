@@ -3,7 +3,8 @@ ghost use Rattle.std.specs.Prelude.{◌≡◌, ℕ, ◌+◌, ◌*◌, ◌<◌, �
 ghost use Rattle.secret_sharing.specs.Schemes.{has_pair, IsScheme};
 ghost use Rattle.party_set.specs.Parties.{IsAntichain, IsQ2, Structure};
 ghost use Rattle.share_layout.specs.Layouts.{holds};
-ghost use Rattle.product_duty.specs.Duties.{duty, pairs_of, pairs_where, scheme_of, EachIsDuty};
+ghost use Rattle.product_duty.specs.Duties.{pairs_of, pairs_where, EachIsDuty};
+ghost use Rattle.secret_sharing.specs.Duties.{duty, scheme_of};
 
 use crate::pairs::Pairs;
 use party_set::{Groups, MOST_GROUPS};

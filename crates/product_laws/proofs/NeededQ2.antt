@@ -13,9 +13,9 @@ use Rattle.mpc_ring.proofs.Remainders.{Same, same_refl, same_sym, same_trans, sa
 use Rattle.party_set.specs.Parties.{Structure, IsQ2, has_party, covers}
 use Rattle.party_set.proofs.EveryNumber.{every_at}
 use Rattle.share_layout.specs.Layouts.{holds, least_party}
-use Rattle.product_duty.specs.Duties.{duty}
+use Rattle.secret_sharing.specs.Duties.{duty}
 use Rattle.product_laws.specs.NeededQ2.{NobodyHoldsBoth, EachHasParty, Q2IsDuty, pair_products, PairsNeedQ2, DutiesMultiply, IsLocal, MakeProducts, ProductsNeedQ2}
-use Rattle.product_duty.proofs.PairDuties.{duty_holds}
+use Rattle.secret_sharing.proofs.PairDuties.{duty_holds}
 
 -- ---- who holds both
 

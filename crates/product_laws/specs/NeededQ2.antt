@@ -4,7 +4,7 @@ use Rattle.list_laws.specs.Lists.{total}
 use Rattle.party_set.specs.Parties.{Structure, IsQ2}
 use Rattle.share_layout.specs.Layouts.{holds}
 use Rattle.q2_test.specs.CoveringPairs.{IsFirstCovering}
-use Rattle.product_duty.specs.Duties.{duty}
+use Rattle.secret_sharing.specs.Duties.{duty}
 
 -- no party holds both summands of the first pair of groups that are all parties
 abbrev pub NobodyHoldsBoth : Structure → Type 0

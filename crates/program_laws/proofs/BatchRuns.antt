@@ -5,9 +5,9 @@ use mathlib.Core.Logic.{inl, inr}
 use Rattle.list_laws.specs.Lists.{joined, only_if}
 use Rattle.session_slots.specs.Sessions.{Session, session_slots}
 use Rattle.job_session.specs.Batches.{batch, is_last}
-use Rattle.party_program.specs.declared.program.Instruction.{Instruction}
+use Rattle.program_model.specs.declared.instruction.Instruction.{Instruction}
 use Rattle.job_session.proofs.BatchOrder.{batch_within}
-use Rattle.party_program.proofs.BegunBatches.{begun, begun_is, begun_end}
+use Rattle.program_model.proofs.BegunBatches.{begun, begun_is, begun_end}
 
 -- lists that become one another, also within others, and one after another
 pub record IsKept (B : List Instruction → List Instruction → Type 0) : Type 0 where

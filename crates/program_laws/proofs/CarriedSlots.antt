@@ -9,17 +9,17 @@ use Rattle.secret_sharing.specs.Schemes.{Run, summands}
 use Rattle.session_slots.specs.declared.source.Source.TheVariants.{Earlier}
 use Rattle.session_slots.specs.Sessions.{Session, Slot, given_by, kept_wire, owners, source}
 use Rattle.session_slots.specs.Sessions.Slot.{Input, Kept}
-use Rattle.job_plan.specs.Plans.{Plan, IsPlan, is_holder, keeping_slot, session, slot, slots}
-use Rattle.job_plan.specs.declared.key.Key.{Key}
-use Rattle.job_plan.specs.Firsts.{first, numbers}
-use Rattle.job_plan.specs.Messages.{slot_messages, input_messages, kept_message, kept_messages}
-use Rattle.job_plan.specs.Numbers.{message}
-use Rattle.job_plan.proofs.KeptPlaces.{IsKeptIn, kept_in}
-use Rattle.job_plan.proofs.SlotMessages.{each_number, every_filter, keys_are}
+use Rattle.plan_model.specs.Plans.{Plan, IsPlan, is_holder, keeping_slot, session, slot, slots}
+use Rattle.plan_model.specs.declared.key.Key.{Key}
+use Rattle.plan_model.specs.Firsts.{first, numbers}
+use Rattle.plan_model.specs.Messages.{slot_messages, input_messages, kept_message, kept_messages}
+use Rattle.plan_model.specs.Numbers.{message}
+use Rattle.plan_model.proofs.KeptPlaces.{IsKeptIn, kept_in}
+use Rattle.plan_model.proofs.SlotMessages.{each_number, every_filter, keys_are}
 use Rattle.share_world.specs.Worlds.{World}
 use Rattle.share_world.specs.Locals.{kept_key, local_run}
-use Rattle.party_program.specs.Programs.{from, to, post, take_of, input_taken, taken, taken_in, takes}
-use Rattle.party_program.specs.States.{Given, State, after_all, posted, taking_slot}
+use Rattle.program_model.specs.Programs.{from, to, post, take_of, input_taken, taken, taken_in, takes}
+use Rattle.program_model.specs.States.{Given, State, after_all, posted, taking_slot}
 use Rattle.program_laws.specs.Meets.{local_given, RightAt}
 use Rattle.program_laws.proofs.DealtSlots.{start_is, undealt}
 use Rattle.program_laws.proofs.ProductSlots.{Doing, Has as HasWire}

@@ -6,9 +6,9 @@ use Rattle.std.proofs.lemmas.List.{get_or-append-add}
 use Rattle.std.proofs.Math.ListN.{get_or-append}
 use mathlib.Core.Logic.{inl, inr}
 use Rattle.list_laws.specs.Lists.{joined}
-use Rattle.party_program.specs.declared.program.Instruction.{Instruction}
-use Rattle.party_program.specs.declared.program.Instruction.TheVariants.{End}
-use Rattle.party_program.specs.Programs.{at}
+use Rattle.program_model.specs.declared.instruction.Instruction.{Instruction}
+use Rattle.program_model.specs.declared.instruction.Instruction.TheVariants.{End}
+use Rattle.program_model.specs.Programs.{at}
 
 abbrev pub Contains : List Instruction → Instruction → Type 0
 Contains es e = (q : ℕ) × (q < length es) × (at es q ≡ e)

@@ -13,21 +13,21 @@ use Rattle.session_slots.specs.declared.source.Source.{Source}
 use Rattle.session_slots.specs.declared.source.Source.TheVariants.{Given as GivenBy}
 use Rattle.session_slots.specs.Sessions.{Session, Slot, given_by, owners, source, mask_wire}
 use Rattle.session_slots.specs.Sessions.Slot.{Input, Mask}
-use Rattle.job_plan.specs.Plans.{Plan, scheme, session, slot, slots, is_holder, given_before, holder_of, least_held, deals_in, words_in, words_before}
-use Rattle.job_plan.specs.declared.key.Key.{Key}
-use Rattle.job_plan.specs.Firsts.{numbers}
-use Rattle.job_plan.specs.Messages.{slot_messages, deal_message, input_messages}
-use Rattle.job_plan.specs.Numbers.{message, deals_before}
-use Rattle.job_plan.proofs.SlotMessages.{every_filter, keys_are}
-use Rattle.job_plan.proofs.TapePlaces.{held_within}
+use Rattle.plan_model.specs.Plans.{Plan, scheme, session, slot, slots, is_holder, given_before, holder_of, least_held, deals_in, words_in, words_before}
+use Rattle.plan_model.specs.declared.key.Key.{Key}
+use Rattle.plan_model.specs.Firsts.{numbers}
+use Rattle.plan_model.specs.Messages.{slot_messages, deal_message, input_messages}
+use Rattle.plan_model.specs.Numbers.{message, deals_before}
+use Rattle.plan_model.proofs.SlotMessages.{every_filter, keys_are}
+use Rattle.plan_model.proofs.TapePlaces.{held_within}
 use Rattle.share_world.specs.Worlds.{World, tape_word, input_of, source_input}
 use Rattle.share_world.specs.Locals.{local_mask, local_run, local_source, local_word_in}
-use Rattle.party_program.specs.declared.program.Instruction.{Instruction}
-use Rattle.party_program.specs.declared.program.Instruction.TheVariants.{Draw, Deal}
-use Rattle.party_program.specs.Programs.{from, to, input_taken, opening, closing}
-use Rattle.party_program.specs.States.{Given, State, next, after_all, posted, dealt_in, drawn_in, word_after}
-use Rattle.party_program.specs.Proper.{Deals, IsMask}
-use Rattle.party_program.proofs.InstructionLists.{Leaves}
+use Rattle.program_model.specs.declared.instruction.Instruction.{Instruction}
+use Rattle.program_model.specs.declared.instruction.Instruction.TheVariants.{Draw, Deal}
+use Rattle.program_model.specs.Programs.{from, to, input_taken, opening, closing}
+use Rattle.program_model.specs.States.{Given, State, next, after_all, posted, dealt_in, drawn_in, word_after}
+use Rattle.program_model.specs.Proper.{Deals, IsMask}
+use Rattle.program_model.proofs.InstructionLists.{Leaves}
 use Rattle.program_laws.specs.Meets.{local_given, IsNextInput, Goes}
 use Rattle.program_laws.proofs.ProductSlots.{Doing}
 use Rattle.program_laws.proofs.SlotRuns.{Runs, number_is, word_is, more_words, Ready, Rowed, key, In, numbered, RowBy, all_rows, slot_is, word_of, idle, TakesOwn, own_takes, taking_is, own_leaves}

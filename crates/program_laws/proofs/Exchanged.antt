@@ -1,10 +1,10 @@
 -- Exchanges of instructions, one after another.
 use Rattle.std.proofs.Common.{◌≡◌, List, [], ◌∷◌, ◌++◌, refl, sym, ap, ◌∙◌, subst, append_assoc, append-nil}
 use Rattle.std.specs.List.{AllByRecursion}
-use Rattle.party_program.specs.declared.program.Instruction.{Instruction}
-use Rattle.party_program.specs.States.{Given, State, next, after_all}
-use Rattle.party_program.specs.Along.{AllAlong}
-use Rattle.party_program.proofs.InstructionLists.{after_append, along_append}
+use Rattle.program_model.specs.declared.instruction.Instruction.{Instruction}
+use Rattle.program_model.specs.States.{Given, State, next, after_all}
+use Rattle.program_model.specs.Along.{AllAlong}
+use Rattle.program_model.proofs.InstructionLists.{after_append, along_append}
 use Rattle.program_laws.specs.Exchanges.{MayGoFirst, Becomes}
 use Rattle.program_laws.proofs.BatchRuns.{IsKept}
 

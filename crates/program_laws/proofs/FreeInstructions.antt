@@ -17,13 +17,13 @@ use Rattle.session_slots.specs.declared.side.Side.{Side}
 use Rattle.session_slots.specs.declared.side.Side.TheVariants.{First, Second}
 use Rattle.session_slots.specs.KeptWires.{sets_in, reads_in}
 use Rattle.session_slots.specs.EarlyWires.{completes, reads_early}
-use Rattle.job_plan.specs.Plans.{Plan, holder_of, least_held, scheme, session, slot}
-use Rattle.job_plan.specs.declared.key.Key.{Key}
+use Rattle.plan_model.specs.Plans.{Plan, holder_of, least_held, scheme, session, slot}
+use Rattle.plan_model.specs.declared.key.Key.{Key}
 use Rattle.share_world.specs.Worlds.{World}
 use Rattle.share_world.proofs.Settled.{is_one, is_first, is_second}
-use Rattle.party_program.specs.declared.program.Instruction.{Instruction}
-use Rattle.party_program.specs.declared.program.Instruction.TheVariants.{Draw, Deal, Post, Take, Linear, Own, Sum, Open, Join, Deliver}
-use Rattle.party_program.specs.States.{Given, State, next, word_after, slot_of, taking_slot, output_in_slot, set_side, dealt_in, drawn_in, excess_of, posted, with_summand, took_in, computed, multiplied, summed, opened_in, joined_in, delivered, opened}
+use Rattle.program_model.specs.declared.instruction.Instruction.{Instruction}
+use Rattle.program_model.specs.declared.instruction.Instruction.TheVariants.{Draw, Deal, Post, Take, Linear, Own, Sum, Open, Join, Deliver}
+use Rattle.program_model.specs.States.{Given, State, next, word_after, slot_of, taking_slot, output_in_slot, set_side, dealt_in, drawn_in, excess_of, posted, with_summand, took_in, computed, multiplied, summed, opened_in, joined_in, delivered, opened}
 use Rattle.program_laws.specs.Meets.{local_given, OpensRight, OpensExcess, Goes}
 use Rattle.program_laws.specs.Exchanges.{MayGoFirst}
 use Rattle.program_laws.proofs.GateReads.{local_same}

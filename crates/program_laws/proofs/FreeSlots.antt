@@ -13,18 +13,18 @@ use Rattle.session_slots.specs.declared.side.Side.TheVariants.{First, Second}
 use Rattle.session_slots.specs.KeptWires.{IsInOrder, slot_sets, slot_reads, sets_in, reads_in}
 use Rattle.session_slots.specs.EarlyWires.{completes, slot_completes, is_join, sets_early, reads_early}
 use Rattle.job_session.specs.Batches.{waits_for, batch}
-use Rattle.job_plan.specs.Plans.{Plan, session, slot, slots}
-use Rattle.job_plan.specs.declared.key.Key.{Key}
-use Rattle.job_plan.specs.Firsts.{numbers}
-use Rattle.job_plan.specs.Numbers.{message, deals_before}
-use Rattle.job_plan.specs.Sound.{IsSound}
-use Rattle.job_plan.proofs.SlotMessages.{every_filter}
+use Rattle.plan_model.specs.Plans.{Plan, session, slot, slots}
+use Rattle.plan_model.specs.declared.key.Key.{Key}
+use Rattle.plan_model.specs.Firsts.{numbers}
+use Rattle.plan_model.specs.Numbers.{message, deals_before}
+use Rattle.plan_model.specs.Sound.{IsSound}
+use Rattle.plan_model.proofs.SlotMessages.{every_filter}
 use Rattle.share_world.specs.Worlds.{World}
 use Rattle.share_world.proofs.Settled.{is_one, of_one, is_first, is_second}
-use Rattle.party_program.specs.declared.program.Instruction.{Instruction}
-use Rattle.party_program.specs.declared.program.Instruction.TheVariants.{Deal}
-use Rattle.party_program.specs.Programs.{from, to, head, tail, tails, taken}
-use Rattle.party_program.specs.States.{Given, State}
+use Rattle.program_model.specs.declared.instruction.Instruction.{Instruction}
+use Rattle.program_model.specs.declared.instruction.Instruction.TheVariants.{Deal}
+use Rattle.program_model.specs.Programs.{from, to, head, tail, tails, taken}
+use Rattle.program_model.specs.States.{Given, State}
 use Rattle.program_laws.specs.Meets.{local_given, Goes}
 use Rattle.program_laws.specs.Exchanges.{Becomes}
 use Rattle.job_session.proofs.BatchOrder.{no_wait, batch_within}

@@ -3,11 +3,11 @@
 use Rattle.std.proofs.Common.{◌≡◌, ◌⊎◌, ℕ, zero, suc, ◌<◌, ◌≤◌, ◌≢◌, List, length, refl, sym, ap, ◌∙◌, subst, arith}
 use Rattle.std.proofs.lemmas.Bool.{cases_lt}
 use mathlib.Core.Logic.{inl, inr}
-use Rattle.job_plan.specs.Plans.{Plan}
-use Rattle.job_plan.specs.Numbers.{message}
-use Rattle.party_program.specs.declared.program.Instruction.{Instruction}
-use Rattle.party_program.specs.declared.program.Instruction.TheVariants.{Draw, Deal, Post, Take, Linear, Own, Sum, Open, Join, Deliver, End}
-use Rattle.party_program.specs.Programs.{at, post}
+use Rattle.plan_model.specs.Plans.{Plan}
+use Rattle.plan_model.specs.Numbers.{message}
+use Rattle.program_model.specs.declared.instruction.Instruction.{Instruction}
+use Rattle.program_model.specs.declared.instruction.Instruction.TheVariants.{Draw, Deal, Post, Take, Linear, Own, Sum, Open, Join, Deliver, End}
+use Rattle.program_model.specs.Programs.{at, post}
 use Rattle.program_laws.specs.Once.{take_slot}
 use Rattle.program_laws.specs.Orders.{ComesTo, EarlierEnded, PostsFirst, IsPosted, SomeCanMove}
 

@@ -1,17 +1,17 @@
 -- Every world within the limits is lawful.
 use Rattle.std.proofs.Common.{◌≡◌, ℕ, ◌<◌, length, sym, ap, ◌∙◌}
-use Rattle.job_plan.specs.Plans.{slot}
-use Rattle.job_plan.specs.Numbers.{message}
+use Rattle.plan_model.specs.Plans.{slot}
+use Rattle.plan_model.specs.Numbers.{message}
 use Rattle.share_world.specs.Worlds.{World, word}
 use Rattle.share_world.specs.Locals.{local_word}
 use Rattle.share_world.specs.Laws.{IsWhole}
 use Rattle.share_world.proofs.SentWords.{sent_are_words}
 use Rattle.share_world.proofs.SmallWords.{is_plan, small_words, small_word}
-use Rattle.party_program.specs.declared.program.Instruction.{Instruction}
-use Rattle.party_program.specs.declared.program.Instruction.TheVariants.{Post, Deliver, End}
-use Rattle.party_program.specs.Programs.{program, at}
-use Rattle.party_program.specs.States.{Given, state, slot_of, posted, output_in_slot}
-use Rattle.party_program.specs.GivenData.{Suits}
+use Rattle.program_model.specs.declared.instruction.Instruction.{Instruction}
+use Rattle.program_model.specs.declared.instruction.Instruction.TheVariants.{Post, Deliver, End}
+use Rattle.program_model.specs.Programs.{program, at}
+use Rattle.program_model.specs.States.{Given, state, slot_of, posted, output_in_slot}
+use Rattle.program_model.specs.GivenData.{Suits}
 use Rattle.program_laws.specs.Meets.{OpensRight, Goes}
 use Rattle.program_laws.specs.Lawful.{given_in, Lawful}
 use Rattle.program_laws.proofs.Lengths.{program_is_short}

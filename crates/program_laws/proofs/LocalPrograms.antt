@@ -1,14 +1,14 @@
 -- A program posts and delivers what its party computes by itself: it does what its slots do one after another.
 use Rattle.std.proofs.Common.{◌≡◌, ℕ, ◌<◌, length, subst}
 use Rattle.list_laws.specs.Lists.{joined}
-use Rattle.job_plan.specs.Plans.{session, slots}
-use Rattle.job_plan.specs.declared.key.Key.{Key}
-use Rattle.job_plan.specs.Sound.{IsSound}
+use Rattle.plan_model.specs.Plans.{session, slots}
+use Rattle.plan_model.specs.declared.key.Key.{Key}
+use Rattle.plan_model.specs.Sound.{IsSound}
 use Rattle.share_world.specs.Worlds.{World}
 use Rattle.job_session.specs.Batches.{batch}
-use Rattle.party_program.specs.Programs.{head, tail, turn, program, slot_program}
-use Rattle.party_program.specs.States.{Given, State, new_state}
-use Rattle.party_program.proofs.InstructionLists.{Leaves}
+use Rattle.program_model.specs.Programs.{head, tail, turn, program, slot_program}
+use Rattle.program_model.specs.States.{Given, State, new_state}
+use Rattle.program_model.proofs.InstructionLists.{Leaves}
 use Rattle.program_laws.specs.Meets.{local_given, Goes, SmallTape}
 use Rattle.program_laws.specs.Exchanges.{Becomes}
 use Rattle.program_laws.proofs.BatchRuns.{whole, at_beginnings}

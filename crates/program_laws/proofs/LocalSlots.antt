@@ -20,14 +20,14 @@ use Rattle.session_slots.specs.SlotNumbers.{first_input, first_of_gate}
 use Rattle.session_slots.specs.KeptWires.{sets_in, slot_sets}
 use Rattle.session_slots.specs.SoundSessions.{Inside, IsWired}
 use Rattle.session_slots.proofs.SessionSlots.{masks_before_product, product_before_inputs, slot_kinds, slots_are_numbered}
-use Rattle.job_plan.specs.Plans.{Plan, session, slot, slots, slot_number, is_holder, gives, given_before, opens_to}
-use Rattle.job_plan.specs.declared.key.Key.{Key}
+use Rattle.plan_model.specs.Plans.{Plan, session, slot, slots, slot_number, is_holder, gives, given_before, opens_to}
+use Rattle.plan_model.specs.declared.key.Key.{Key}
 use Rattle.share_world.specs.Worlds.{World}
 use Rattle.share_world.specs.Locals.{local_mask, local_mask_product, local_excess, local_run, local_output}
-use Rattle.party_program.specs.declared.program.Instruction.{Instruction}
-use Rattle.party_program.specs.Programs.{slot_program}
-use Rattle.party_program.specs.States.{Given, State, new_state, after_all}
-use Rattle.party_program.proofs.InstructionLists.{Leaves, leaves_append}
+use Rattle.program_model.specs.declared.instruction.Instruction.{Instruction}
+use Rattle.program_model.specs.Programs.{slot_program}
+use Rattle.program_model.specs.States.{Given, State, new_state, after_all}
+use Rattle.program_model.proofs.InstructionLists.{Leaves, leaves_append}
 use Rattle.program_laws.specs.Meets.{local_given, Goes}
 use Rattle.program_laws.proofs.CarriedSlots.{carried_input, kept_slot}
 use Rattle.program_laws.proofs.DealtSlots.{own_input, other_input, mask_slot}

@@ -1,11 +1,11 @@
 -- Each message goes from one party to another, or is of a kept wire and stays with its party.
 use Rattle.std.proofs.Common.{◌<◌, ℕ, length}
 use Rattle.session_slots.specs.Sessions.{Slot}
-use Rattle.job_plan.specs.Plans.{Plan, IsPlan}
-use Rattle.job_plan.specs.declared.key.Key.{Key}
-use Rattle.job_plan.specs.Messages.{messages}
-use Rattle.job_plan.specs.Numbers.{message}
-use Rattle.party_program.specs.States.{slot_of}
+use Rattle.plan_model.specs.Plans.{Plan, IsPlan}
+use Rattle.plan_model.specs.declared.key.Key.{Key}
+use Rattle.plan_model.specs.Messages.{messages}
+use Rattle.plan_model.specs.Numbers.{message}
+use Rattle.program_model.specs.States.{slot_of}
 use Rattle.program_laws.specs.Once.{GiversAreParties, IsBetweenParties}
 use Rattle.program_laws.proofs.SentMessages.{going, sender_within, stays, there}
 

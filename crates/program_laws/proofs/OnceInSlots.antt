@@ -4,16 +4,16 @@ use Rattle.std.specs.List.{range_with_len, filter}
 use Rattle.std.proofs.lemmas.Bool.{cases_eq, cases_lt, cases_Bool, cond-true, cond-false, eq-eqb, eqb-true}
 use mathlib.Core.Logic.{inl, inr}
 use Rattle.list_laws.proofs.JoinedLists.{total_within}
-use Rattle.job_plan.specs.Plans.{Plan, IsPlan, slot, slots}
-use Rattle.job_plan.specs.declared.key.Key.{Key}
-use Rattle.job_plan.specs.Messages.{messages}
-use Rattle.job_plan.specs.Numbers.{message}
-use Rattle.job_plan.specs.Firsts.{count, session_count, first, numbers}
-use Rattle.job_plan.proofs.DistinctMessages.{number_of_message}
-use Rattle.job_plan.proofs.MessageSlots.{IsThere, number_is}
-use Rattle.party_program.specs.declared.program.Instruction.{Instruction}
-use Rattle.party_program.specs.declared.program.Instruction.TheVariants.{Post, Take, End}
-use Rattle.party_program.specs.Programs.{at, from, to, post, take_of, passes, passed, opening, posts, takes, head, tail, slot_program}
+use Rattle.plan_model.specs.Plans.{Plan, IsPlan, slot, slots}
+use Rattle.plan_model.specs.declared.key.Key.{Key}
+use Rattle.plan_model.specs.Messages.{messages}
+use Rattle.plan_model.specs.Numbers.{message}
+use Rattle.plan_model.specs.Firsts.{count, session_count, first, numbers}
+use Rattle.plan_model.proofs.DistinctMessages.{number_of_message}
+use Rattle.plan_model.proofs.MessageSlots.{IsThere, number_is}
+use Rattle.program_model.specs.declared.instruction.Instruction.{Instruction}
+use Rattle.program_model.specs.declared.instruction.Instruction.TheVariants.{Post, Take, End}
+use Rattle.program_model.specs.Programs.{at, from, to, post, take_of, passes, passed, opening, posts, takes, head, tail, slot_program}
 use Rattle.program_laws.specs.Once.{StandsOnceInSlot, IsOnceInSlot, taken_at, take_session, take_slot}
 use Rattle.program_laws.proofs.ContainedInstructions.{Contains, contains_left, contains_right, contains_kept}
 use Rattle.program_laws.proofs.SameTalks.{told, slot_told}

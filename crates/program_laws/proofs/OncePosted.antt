@@ -5,14 +5,14 @@ use Rattle.std.proofs.lemmas.Bool.{cases_Bool, cond-true, cond-false, eq-eqb, eq
 use mathlib.Core.Logic.{inl, inr}
 use Rattle.list_laws.specs.Lists.{total, joined}
 use Rattle.list_laws.proofs.Totals.{total_one, total_zero}
-use Rattle.job_plan.specs.Plans.{Plan, IsPlan, session, slots}
-use Rattle.job_plan.specs.declared.key.Key.{Key}
-use Rattle.job_plan.specs.Messages.{messages}
-use Rattle.job_plan.specs.Numbers.{message}
+use Rattle.plan_model.specs.Plans.{Plan, IsPlan, session, slots}
+use Rattle.plan_model.specs.declared.key.Key.{Key}
+use Rattle.plan_model.specs.Messages.{messages}
+use Rattle.plan_model.specs.Numbers.{message}
 use Rattle.job_session.specs.Batches.{batch}
-use Rattle.party_program.specs.declared.program.Instruction.{Instruction}
-use Rattle.party_program.specs.declared.program.Instruction.TheVariants.{Post, Take, End}
-use Rattle.party_program.specs.Programs.{at, head, tail, tails, program, slot_program}
+use Rattle.program_model.specs.declared.instruction.Instruction.{Instruction}
+use Rattle.program_model.specs.declared.instruction.Instruction.TheVariants.{Post, Take, End}
+use Rattle.program_model.specs.Programs.{at, head, tail, tails, program, slot_program}
 use Rattle.program_laws.specs.Once.{StandsOnce, StandsOnceInSlot, IsOnce, take_session, take_slot}
 use Rattle.program_laws.proofs.BatchRuns.{whole}
 use Rattle.program_laws.proofs.ContainedInstructions.{Contains, contains_left, contains_right}

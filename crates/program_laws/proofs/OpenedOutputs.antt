@@ -6,16 +6,16 @@ use mathlib.Core.Logic.{inl, inr}
 use Rattle.circuit_model.proofs.SetAt.{set_here, set_there}
 use Rattle.session_slots.specs.Sessions.{Slot, output_wire}
 use Rattle.session_slots.specs.Sessions.Slot.{Input, At_gate, Mask, Mask_product, Masked}
-use Rattle.job_plan.specs.Plans.{Plan, session, reads, slot}
-use Rattle.job_plan.specs.Sound.{IsSound}
-use Rattle.job_plan.specs.declared.key.Key.{Key}
+use Rattle.plan_model.specs.Plans.{Plan, session, reads, slot}
+use Rattle.plan_model.specs.Sound.{IsSound}
+use Rattle.plan_model.specs.declared.key.Key.{Key}
 use Rattle.share_world.specs.Worlds.{World}
 use Rattle.share_world.specs.Locals.{local_output}
-use Rattle.party_program.specs.declared.program.Instruction.{Instruction}
-use Rattle.party_program.specs.declared.program.Instruction.TheVariants.{Draw, Deal, Post, Take, Linear, Own, Sum, Open, Join, Deliver, End}
-use Rattle.party_program.specs.Programs.{program, at}
-use Rattle.party_program.specs.States.{Given, State, new_state, state, next, drawn_in, dealt_in, took_in, opened, opened_in, joined_in, word_after, taking_slot, output_in_slot}
-use Rattle.party_program.proofs.InstructionLists.{along_at, state_is}
+use Rattle.program_model.specs.declared.instruction.Instruction.{Instruction}
+use Rattle.program_model.specs.declared.instruction.Instruction.TheVariants.{Draw, Deal, Post, Take, Linear, Own, Sum, Open, Join, Deliver, End}
+use Rattle.program_model.specs.Programs.{program, at}
+use Rattle.program_model.specs.States.{Given, State, new_state, state, next, drawn_in, dealt_in, took_in, opened, opened_in, joined_in, word_after, taking_slot, output_in_slot}
+use Rattle.program_model.proofs.InstructionLists.{along_at, state_is}
 use Rattle.program_laws.specs.Meets.{local_given, Goes, SmallTape}
 use Rattle.program_laws.proofs.LocalPrograms.{met}
 

@@ -9,28 +9,28 @@ use Rattle.list_laws.specs.Lists.{total, joined, only_if}
 use Rattle.list_laws.proofs.Totals.{total_eq, total_zero}
 use Rattle.mpc_ring.specs.Differences.{difference}
 use Rattle.mpc_ring.proofs.Remainders.{same_refl, same_mod, same_trans, mods_of_same}
-use Rattle.mpc_ring.proofs.Totals.{total_same}
+use Rattle.secret_sharing.proofs.RingTotals.{total_same}
 use Rattle.circuit_model.proofs.SetAt.{set_here, set_there}
 use Rattle.secret_sharing.specs.Schemes.{Run, summands}
 use Rattle.secret_sharing.specs.Prepared.{masked}
 use Rattle.session_slots.specs.declared.side.Side.{Side}
 use Rattle.session_slots.specs.Sessions.{Session, Slot, gate, operand, output_wire, mask_wire}
 use Rattle.session_slots.specs.Sessions.Slot.{Output, Masked}
-use Rattle.job_plan.specs.Plans.{Plan, scheme, session, slot, slots, is_holder, holder_of, opens_to, words_in, words_before}
-use Rattle.job_plan.specs.declared.key.Key.{Key}
-use Rattle.job_plan.specs.Firsts.{numbers}
-use Rattle.job_plan.specs.Messages.{slot_messages, open_messages}
-use Rattle.job_plan.specs.Numbers.{message}
-use Rattle.job_plan.proofs.PlanSchemes.{least_holds}
-use Rattle.job_plan.proofs.SlotMessages.{every_filter, keys_are}
+use Rattle.plan_model.specs.Plans.{Plan, scheme, session, slot, slots, is_holder, holder_of, opens_to, words_in, words_before}
+use Rattle.plan_model.specs.declared.key.Key.{Key}
+use Rattle.plan_model.specs.Firsts.{numbers}
+use Rattle.plan_model.specs.Messages.{slot_messages, open_messages}
+use Rattle.plan_model.specs.Numbers.{message}
+use Rattle.plan_model.proofs.PlanSchemes.{least_holds}
+use Rattle.plan_model.proofs.SlotMessages.{every_filter, keys_are}
 use Rattle.share_world.specs.Worlds.{World}
 use Rattle.share_world.specs.Locals.{local_mask, local_opened, local_excess, local_output, local_run, local_word_in}
-use Rattle.party_program.specs.declared.program.Instruction.{Instruction}
-use Rattle.party_program.specs.declared.program.Instruction.TheVariants.{Open, Deliver}
-use Rattle.party_program.specs.Programs.{from, to, post, opening, closing}
-use Rattle.party_program.specs.States.{Given, State, next, after_all, posted, excess_of, opened, opened_in, delivered, output_in_slot, set_side}
-use Rattle.party_program.specs.Proper.{IsMasked, IsOutput}
-use Rattle.party_program.proofs.InstructionLists.{Leaves}
+use Rattle.program_model.specs.declared.instruction.Instruction.{Instruction}
+use Rattle.program_model.specs.declared.instruction.Instruction.TheVariants.{Open, Deliver}
+use Rattle.program_model.specs.Programs.{from, to, post, opening, closing}
+use Rattle.program_model.specs.States.{Given, State, next, after_all, posted, excess_of, opened, opened_in, delivered, output_in_slot, set_side}
+use Rattle.program_model.specs.Proper.{IsMasked, IsOutput}
+use Rattle.program_model.proofs.InstructionLists.{Leaves}
 use Rattle.program_laws.specs.Meets.{local_given, OpensRight, OpensExcess, RightAt, Goes}
 use Rattle.program_laws.proofs.ProductSlots.{Doing, Has}
 use Rattle.program_laws.proofs.SlotRuns.{Runs, valid, positive, number_is, more_words, Ready, key, In, numbered, ShownBy, all_shown, slot_is, word_of, none_taken, TakesOwn, own_takes, taking_is, own_leaves}

@@ -4,12 +4,12 @@ use Rattle.std.specs.Prelude.{slice_index_or}
 use Rattle.std.proofs.lemmas.List.{length-drop, length-take-le}
 use Rattle.list_laws.specs.Lists.{total}
 use Rattle.list_laws.proofs.JoinedLists.{total_within}
-use Rattle.job_plan.specs.Plans.{IsPlan, words, slot_number, place}
-use Rattle.job_plan.specs.declared.key.Key.{Key}
-use Rattle.job_plan.proofs.PlanSchemes.{plan_is}
+use Rattle.plan_model.specs.Plans.{IsPlan, words, slot_number, place}
+use Rattle.plan_model.specs.declared.key.Key.{Key}
+use Rattle.plan_model.proofs.PlanSchemes.{plan_is}
 use Rattle.share_world.specs.Worlds.{World}
 use Rattle.share_world.specs.Laws.{IsWhole}
-use Rattle.party_program.specs.GivenData.{Suits}
+use Rattle.program_model.specs.GivenData.{Suits}
 use Rattle.program_laws.specs.Meets.{local_given, SmallTape}
 use Rattle.program_laws.specs.Parts.{IsPart}
 

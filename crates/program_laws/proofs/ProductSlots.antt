@@ -16,21 +16,21 @@ use Rattle.secret_sharing.proofs.SummandSums.{dealt_eq}
 use Rattle.session_slots.specs.declared.side.Side.TheVariants.{First, Second}
 use Rattle.session_slots.specs.Sessions.{Session, Slot, gate, is_direct, is_prepared, mask_wire, product_wire, product_in}
 use Rattle.session_slots.specs.Sessions.Slot.{At_gate, Mask_product}
-use Rattle.job_plan.specs.Plans.{Plan, scheme, session, slot, slots, is_holder, deals_in, words_in, words_before}
-use Rattle.job_plan.specs.declared.key.Key.{Key}
-use Rattle.job_plan.specs.Firsts.{numbers}
-use Rattle.job_plan.specs.Messages.{slot_messages, deal_messages, product_messages}
-use Rattle.job_plan.specs.Numbers.{message, deals_before}
-use Rattle.job_plan.proofs.SlotMessages.{every_filter, keys_are}
+use Rattle.plan_model.specs.Plans.{Plan, scheme, session, slot, slots, is_holder, deals_in, words_in, words_before}
+use Rattle.plan_model.specs.declared.key.Key.{Key}
+use Rattle.plan_model.specs.Firsts.{numbers}
+use Rattle.plan_model.specs.Messages.{slot_messages, deal_messages, product_messages}
+use Rattle.plan_model.specs.Numbers.{message, deals_before}
+use Rattle.plan_model.proofs.SlotMessages.{every_filter, keys_are}
 use Rattle.share_world.specs.Worlds.{World, tape_word}
 use Rattle.share_world.specs.Locals.{key_at, local_deal, local_mask, local_mask_product, local_excess, local_run, local_word_in}
 use Rattle.share_world.proofs.LocalWords.{holder_own}
-use Rattle.party_program.specs.declared.program.Instruction.{Instruction}
-use Rattle.party_program.specs.declared.program.Instruction.TheVariants.{Deal, Linear, Own, Sum, Join}
-use Rattle.party_program.specs.Programs.{from, to, post, opening, closing, slot_program}
-use Rattle.party_program.specs.States.{Given, State, next, after_all, posted, dealt_as, dealt_in, multiplied, summed, computed, joined_in, word_after}
-use Rattle.party_program.specs.Proper.{Deals, IsGate, Multiplies}
-use Rattle.party_program.proofs.InstructionLists.{Leaves}
+use Rattle.program_model.specs.declared.instruction.Instruction.{Instruction}
+use Rattle.program_model.specs.declared.instruction.Instruction.TheVariants.{Deal, Linear, Own, Sum, Join}
+use Rattle.program_model.specs.Programs.{from, to, post, opening, closing, slot_program}
+use Rattle.program_model.specs.States.{Given, State, next, after_all, posted, dealt_as, dealt_in, multiplied, summed, computed, joined_in, word_after}
+use Rattle.program_model.specs.Proper.{Deals, IsGate, Multiplies}
+use Rattle.program_model.proofs.InstructionLists.{Leaves}
 use Rattle.program_laws.specs.Meets.{local_given, RightAt, IsNextInput, Goes}
 use Rattle.program_laws.proofs.SlotRuns.{Runs, valid, positive, number_is, word_is, more_words, Ready, Rowed, key, In, numbered, DealtBy, all_dealt, slot_is, word_of, none_taken, TakesOwn, own_takes, taking_is, own_leaves}
 use Rattle.program_laws.proofs.SlotTakes.{Adds, SumsOf, tally, takes_sums}

@@ -12,18 +12,18 @@ use Rattle.secret_sharing.specs.Schemes.{has_pair}
 use Rattle.session_slots.specs.Sessions.{Session, Slot, gate, is_direct, is_prepared}
 use Rattle.session_slots.specs.declared.side.Side.{Side}
 use Rattle.session_slots.specs.Sessions.Slot.{Input, At_gate, Output, Mask, Mask_product, Masked, Kept}
-use Rattle.job_plan.specs.Plans.{Plan, IsPlan, scheme, session, slot, slots, deals_in, opens_to, gives, words_in}
-use Rattle.job_plan.specs.Firsts.{numbers}
-use Rattle.job_plan.specs.Messages.{messages}
-use Rattle.job_plan.specs.Numbers.{message, deals_before}
-use Rattle.job_plan.specs.Sound.{IsSound}
-use Rattle.job_plan.proofs.PlanSchemes.{plan_is}
-use Rattle.job_plan.proofs.SlotMessages.{every_filter}
+use Rattle.plan_model.specs.Plans.{Plan, IsPlan, scheme, session, slot, slots, deals_in, opens_to, gives, words_in}
+use Rattle.plan_model.specs.Firsts.{numbers}
+use Rattle.plan_model.specs.Messages.{messages}
+use Rattle.plan_model.specs.Numbers.{message, deals_before}
+use Rattle.plan_model.specs.Sound.{IsSound}
+use Rattle.plan_model.proofs.PlanSchemes.{plan_is}
+use Rattle.plan_model.proofs.SlotMessages.{every_filter}
 use Rattle.job_session.specs.Batches.{batch, is_last}
-use Rattle.party_program.specs.declared.program.Instruction.{Instruction}
-use Rattle.party_program.specs.declared.program.Instruction.TheVariants.{Draw, Deal, Post, Take, Linear, Own, Sum, Open, Join, Deliver, End}
-use Rattle.party_program.specs.Programs.{at, from, to, post, take_of, opening, closing, posts, taken, takes, head, tail, tails, turn, program, slot_program}
-use Rattle.party_program.specs.Proper.{IsMask, IsMasked, IsOutput}
+use Rattle.program_model.specs.declared.instruction.Instruction.{Instruction}
+use Rattle.program_model.specs.declared.instruction.Instruction.TheVariants.{Draw, Deal, Post, Take, Linear, Own, Sum, Open, Join, Deliver, End}
+use Rattle.program_model.specs.Programs.{at, from, to, post, take_of, opening, closing, posts, taken, takes, head, tail, tails, turn, program, slot_program}
+use Rattle.program_model.specs.Proper.{IsMask, IsMasked, IsOutput}
 use Rattle.job_session.proofs.BatchOrder.{batch_within, last_of}
 use Rattle.program_laws.specs.Once.{take_slot}
 use Rattle.program_laws.proofs.ContainedInstructions.{Contains, contains_left, contains_right, contains_joined}

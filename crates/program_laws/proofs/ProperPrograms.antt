@@ -8,20 +8,20 @@ use mathlib.Core.Logic.{inl, inr}
 use Rattle.list_laws.specs.Lists.{total}
 use Rattle.list_laws.proofs.JoinedLists.{total_within}
 use Rattle.session_slots.specs.Sessions.{Slot, owners}
-use Rattle.job_plan.specs.Plans.{Plan, session, slot, slots, deals_in, least_held, words, gives, words_in, words_before, input_count}
+use Rattle.plan_model.specs.Plans.{Plan, session, slot, slots, deals_in, least_held, words, gives, words_in, words_before, input_count}
 use Rattle.session_slots.specs.Sessions.Slot.{Input, At_gate, Output, Mask, Mask_product, Masked, Kept}
-use Rattle.job_plan.specs.Sound.{IsSound}
-use Rattle.job_plan.specs.declared.key.Key.{Key}
+use Rattle.plan_model.specs.Sound.{IsSound}
+use Rattle.plan_model.specs.declared.key.Key.{Key}
 use Rattle.session_slots.specs.SoundSessions.{Inside}
 use Rattle.session_slots.proofs.SessionSlots.{slots_are_numbered}
 use Rattle.share_world.specs.Worlds.{World}
-use Rattle.party_program.specs.declared.program.Instruction.{Instruction}
-use Rattle.party_program.specs.declared.program.Instruction.TheVariants.{Draw, Deal, Post, Take, Linear, Own, Sum, Open, Join, Deliver, End}
-use Rattle.party_program.specs.Programs.{program, at}
-use Rattle.party_program.specs.States.{Given, State, new_state, state, after, drawn_in, dealt_in, took_in, opened_in, joined_in, word_after, taking_slot}
-use Rattle.party_program.specs.Proper.{Proper, IsMask, CanDraw, CanDealIn, HasInput}
-use Rattle.party_program.specs.GivenData.{Suits}
-use Rattle.party_program.proofs.InstructionLists.{along_at, state_is}
+use Rattle.program_model.specs.declared.instruction.Instruction.{Instruction}
+use Rattle.program_model.specs.declared.instruction.Instruction.TheVariants.{Draw, Deal, Post, Take, Linear, Own, Sum, Open, Join, Deliver, End}
+use Rattle.program_model.specs.Programs.{program, at}
+use Rattle.program_model.specs.States.{Given, State, new_state, state, after, drawn_in, dealt_in, took_in, opened_in, joined_in, word_after, taking_slot}
+use Rattle.program_model.specs.Proper.{Proper, IsMask, CanDraw, CanDealIn, HasInput}
+use Rattle.program_model.specs.GivenData.{Suits}
+use Rattle.program_model.proofs.InstructionLists.{along_at, state_is}
 use Rattle.program_laws.specs.Meets.{local_given, IsNextInput, Goes, SmallTape}
 use Rattle.program_laws.proofs.LocalPrograms.{met}
 

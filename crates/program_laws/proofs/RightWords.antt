@@ -10,10 +10,10 @@ use Rattle.session_slots.specs.Sessions.{Session, Slot, readers, output_wire}
 use Rattle.session_slots.specs.Sessions.Slot.{Output, Kept}
 use Rattle.session_slots.specs.SoundSessions.{Inside}
 use Rattle.session_slots.proofs.SessionSlots.{slot_there, number_within, slot_count}
-use Rattle.job_plan.specs.Plans.{Plan, IsPlan, session, slots, slot_number, holder_of, reads}
-use Rattle.job_plan.specs.declared.key.Key.{Key}
-use Rattle.job_plan.specs.Messages.{messages, slot_messages}
-use Rattle.job_plan.proofs.KeptPlaces.{kept_in}
+use Rattle.plan_model.specs.Plans.{Plan, IsPlan, session, slots, slot_number, holder_of, reads}
+use Rattle.plan_model.specs.declared.key.Key.{Key}
+use Rattle.plan_model.specs.Messages.{messages, slot_messages}
+use Rattle.plan_model.proofs.KeptPlaces.{kept_in}
 use Rattle.share_world.specs.Worlds.{World, run_of, word, plain}
 use Rattle.share_world.specs.Locals.{key_at, local_word, local_output}
 use Rattle.share_world.specs.Laws.{IsWhole}

@@ -4,13 +4,13 @@ use Rattle.std.specs.List.{AllByRecursion, filter}
 use Rattle.std.proofs.lemmas.Grind.{flat_map-append}
 use mathlib.Core.Logic.{inl, inr}
 use Rattle.list_laws.specs.Lists.{joined}
-use Rattle.job_plan.specs.Plans.{Plan, session, slot, slots}
-use Rattle.job_plan.specs.Firsts.{numbers}
-use Rattle.job_plan.specs.Numbers.{message, deals_before}
+use Rattle.plan_model.specs.Plans.{Plan, session, slot, slots}
+use Rattle.plan_model.specs.Firsts.{numbers}
+use Rattle.plan_model.specs.Numbers.{message, deals_before}
 use Rattle.job_session.specs.Batches.{batch}
-use Rattle.party_program.specs.declared.program.Instruction.{Instruction}
-use Rattle.party_program.specs.declared.program.Instruction.TheVariants.{Draw, Deal, Post, Take, Linear, Own, Sum, Open, Join, Deliver}
-use Rattle.party_program.specs.Programs.{from, to, post, take_of, passes, passed, opening, closing, posts, taken, takes, head, tail, tails, program, slot_program}
+use Rattle.program_model.specs.declared.instruction.Instruction.{Instruction}
+use Rattle.program_model.specs.declared.instruction.Instruction.TheVariants.{Draw, Deal, Post, Take, Linear, Own, Sum, Open, Join, Deliver}
+use Rattle.program_model.specs.Programs.{from, to, post, take_of, passes, passed, opening, closing, posts, taken, takes, head, tail, tails, program, slot_program}
 use Rattle.program_laws.specs.Talks.{post_no, take_no}
 use Rattle.program_laws.proofs.BatchRuns.{IsKept, whole}
 use Rattle.program_laws.proofs.ProgramParts.{every_opening, every_closing}

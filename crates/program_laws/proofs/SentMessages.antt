@@ -7,16 +7,16 @@ use Rattle.session_slots.specs.Sessions.{Slot, owners, source}
 use Rattle.session_slots.specs.Sessions.Slot.{Input, At_gate, Output, Mask, Mask_product, Masked, Kept}
 use Rattle.session_slots.specs.SoundSessions.{Inside}
 use Rattle.session_slots.proofs.SessionSlots.{slots_are_numbered}
-use Rattle.job_plan.specs.Plans.{Plan, IsPlan, session, slot, slots, is_holder, holder_of}
-use Rattle.job_plan.specs.declared.key.Key.{Key}
-use Rattle.job_plan.specs.Firsts.{numbers}
-use Rattle.job_plan.specs.Messages.{messages, slot_messages}
-use Rattle.job_plan.specs.Numbers.{message, no_key}
-use Rattle.job_plan.specs.Sound.{IsSound}
-use Rattle.job_plan.proofs.DistinctMessages.{every_place, number_of_message}
-use Rattle.job_plan.proofs.MessageSlots.{IsThere, is_there}
-use Rattle.job_plan.proofs.PlanSchemes.{least_within, least_holds}
-use Rattle.job_plan.proofs.SlotMessages.{each_number}
+use Rattle.plan_model.specs.Plans.{Plan, IsPlan, session, slot, slots, is_holder, holder_of}
+use Rattle.plan_model.specs.declared.key.Key.{Key}
+use Rattle.plan_model.specs.Firsts.{numbers}
+use Rattle.plan_model.specs.Messages.{messages, slot_messages}
+use Rattle.plan_model.specs.Numbers.{message, no_key}
+use Rattle.plan_model.specs.Sound.{IsSound}
+use Rattle.plan_model.proofs.DistinctMessages.{every_place, number_of_message}
+use Rattle.plan_model.proofs.MessageSlots.{IsThere, is_there}
+use Rattle.plan_model.proofs.PlanSchemes.{least_within, least_holds}
+use Rattle.plan_model.proofs.SlotMessages.{each_number}
 use Rattle.share_world.proofs.GoingMessages.{Goes, every_going}
 use Rattle.program_laws.specs.Once.{GiversAreParties, keeps}
 

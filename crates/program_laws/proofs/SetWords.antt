@@ -20,17 +20,17 @@ use Rattle.session_slots.specs.SlotNumbers.{first_of_gate, session_slot_number, 
 use Rattle.session_slots.specs.SoundSessions.{Inside}
 use Rattle.session_slots.proofs.KeptRows.{some_found, some_at, sets_one}
 use Rattle.session_slots.proofs.SessionSlots.{slots_are_numbered}
-use Rattle.job_plan.specs.Plans.{Plan, scheme, session, slot, slots, is_holder, holder_of, least_held, words_in, deals_in}
-use Rattle.job_plan.specs.Firsts.{numbers}
-use Rattle.job_plan.specs.Messages.{slot_messages, input_messages}
-use Rattle.job_plan.specs.Numbers.{message, deals_before}
-use Rattle.job_plan.specs.Sound.{IsSound}
-use Rattle.job_plan.proofs.SlotMessages.{keys_are, every_filter}
+use Rattle.plan_model.specs.Plans.{Plan, scheme, session, slot, slots, is_holder, holder_of, least_held, words_in, deals_in}
+use Rattle.plan_model.specs.Firsts.{numbers}
+use Rattle.plan_model.specs.Messages.{slot_messages, input_messages}
+use Rattle.plan_model.specs.Numbers.{message, deals_before}
+use Rattle.plan_model.specs.Sound.{IsSound}
+use Rattle.plan_model.proofs.SlotMessages.{keys_are, every_filter}
 use Rattle.job_session.specs.Batches.{batch}
 use Rattle.session_slots.specs.EarlyWires.{completes, slot_completes, is_join, sets_early, reads_early}
-use Rattle.party_program.specs.declared.program.Instruction.{Instruction}
-use Rattle.party_program.specs.declared.program.Instruction.TheVariants.{Draw, Deal, Post, Take, Linear, Own, Sum, Open, Join, Deliver, End}
-use Rattle.party_program.specs.Programs.{program, at, to, take_of, input_taken, opening, closing, posts, taken, taken_in, takes}
+use Rattle.program_model.specs.declared.instruction.Instruction.{Instruction}
+use Rattle.program_model.specs.declared.instruction.Instruction.TheVariants.{Draw, Deal, Post, Take, Linear, Own, Sum, Open, Join, Deliver, End}
+use Rattle.program_model.specs.Programs.{program, at, to, take_of, input_taken, opening, closing, posts, taken, taken_in, takes}
 use Rattle.program_laws.specs.WordsRead.{gate_at, Deals, TakesInto, SetsSummand, ReadsSummand, IsSet, IsToRead}
 use Rattle.job_session.proofs.BatchOrder.{batch_within, no_wait, rising}
 use Rattle.program_laws.proofs.CarriedSlots.{carried_has}

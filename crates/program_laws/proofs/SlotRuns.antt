@@ -9,23 +9,23 @@ use Rattle.list_laws.specs.Lists.{joined, only_if}
 use Rattle.list_laws.proofs.JoinedLists.{every_joined, every_only_if, every_both, total_within}
 use Rattle.session_slots.specs.Sessions.{Session, Slot}
 use Rattle.session_slots.proofs.SessionSlots.{slots_are_numbered}
-use Rattle.job_plan.specs.Plans.{Plan, IsPlan, session, slot, slots, slot_number, is_holder, holder_of, deals_in, opens_to, words_in, words_before, words, place}
-use Rattle.job_plan.specs.declared.key.Key.{Key}
-use Rattle.job_plan.specs.Firsts.{numbers}
-use Rattle.job_plan.specs.Messages.{messages, slot_messages, deal_message, product_messages, open_messages}
-use Rattle.job_plan.specs.Numbers.{message}
-use Rattle.job_plan.specs.Sound.{IsSound}
-use Rattle.job_plan.proofs.DistinctMessages.{every_summand}
-use Rattle.job_plan.proofs.PlanSchemes.{plan_is}
-use Rattle.job_plan.proofs.SlotMessages.{each_number, every_filter}
+use Rattle.plan_model.specs.Plans.{Plan, IsPlan, session, slot, slots, slot_number, is_holder, holder_of, deals_in, opens_to, words_in, words_before, words, place}
+use Rattle.plan_model.specs.declared.key.Key.{Key}
+use Rattle.plan_model.specs.Firsts.{numbers}
+use Rattle.plan_model.specs.Messages.{messages, slot_messages, deal_message, product_messages, open_messages}
+use Rattle.plan_model.specs.Numbers.{message}
+use Rattle.plan_model.specs.Sound.{IsSound}
+use Rattle.plan_model.proofs.DistinctMessages.{every_summand}
+use Rattle.plan_model.proofs.PlanSchemes.{plan_is}
+use Rattle.plan_model.proofs.SlotMessages.{each_number, every_filter}
 use Rattle.share_world.specs.Worlds.{World, tape_word}
 use Rattle.share_world.specs.Locals.{local_word, local_word_in}
-use Rattle.party_program.specs.declared.program.Instruction.{Instruction}
-use Rattle.party_program.specs.Programs.{from, to, post, take_of, opening, closing, posts, taken, taken_as, taken_in, takes, slot_program}
-use Rattle.party_program.specs.States.{Given, State, next, after_all, slot_of, taking_slot, word_after}
-use Rattle.party_program.specs.Proper.{IsSessionMessage, IsTakenMessage}
-use Rattle.party_program.specs.Along.{AllAlong}
-use Rattle.party_program.proofs.InstructionLists.{Leaves, leaves_append, along_posts, after_posts}
+use Rattle.program_model.specs.declared.instruction.Instruction.{Instruction}
+use Rattle.program_model.specs.Programs.{from, to, post, take_of, opening, closing, posts, taken, taken_as, taken_in, takes, slot_program}
+use Rattle.program_model.specs.States.{Given, State, next, after_all, slot_of, taking_slot, word_after}
+use Rattle.program_model.specs.Proper.{IsSessionMessage, IsTakenMessage}
+use Rattle.program_model.specs.Along.{AllAlong}
+use Rattle.program_model.proofs.InstructionLists.{Leaves, leaves_append, along_posts, after_posts}
 use Rattle.program_laws.specs.Meets.{local_given, RightAt, Goes, SmallTape}
 use Rattle.program_laws.proofs.SentMessages.{givers}
 use Rattle.program_laws.proofs.TakenMessages.{all_taken, taken_message}

@@ -6,11 +6,11 @@ use Rattle.std.proofs.Math.Nat.{mod-add-mod}
 use mathlib.Core.Logic.{inl, inr}
 use Rattle.circuit_model.specs.Circuits.{set_at}
 use Rattle.session_slots.specs.Sessions.{Slot}
-use Rattle.job_plan.specs.Plans.{Plan}
+use Rattle.plan_model.specs.Plans.{Plan}
 use Rattle.session_slots.specs.Sessions.Slot.{Input, Mask}
-use Rattle.job_plan.specs.Numbers.{message}
-use Rattle.party_program.specs.Programs.{take_of}
-use Rattle.party_program.specs.States.{Given, State, next, after_all, took_in, with_summand, taking_slot}
+use Rattle.plan_model.specs.Numbers.{message}
+use Rattle.program_model.specs.Programs.{take_of}
+use Rattle.program_model.specs.States.{Given, State, next, after_all, took_in, with_summand, taking_slot}
 use Rattle.circuit_model.proofs.SetAt.{set_here, set_there}
 
 -- the words of such a slot are added up

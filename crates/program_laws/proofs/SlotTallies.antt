@@ -4,13 +4,13 @@ use Rattle.std.specs.List.{filter}
 use Rattle.std.proofs.lemmas.Bool.{cases_eq, cases_Bool, cond-true, cond-false, eq-eqb, ne_eqb, and_from, and_left, not_from_false, not_from_true, both_ways}
 use mathlib.Core.Logic.{inl, inr}
 use Rattle.list_laws.specs.Lists.{total, joined, only_if}
-use Rattle.job_plan.specs.Plans.{Plan, is_holder}
-use Rattle.job_plan.specs.declared.key.Key.{Key}
-use Rattle.job_plan.specs.Messages.{deal_message, deal_messages}
-use Rattle.job_plan.specs.Numbers.{message}
+use Rattle.plan_model.specs.Plans.{Plan, is_holder}
+use Rattle.plan_model.specs.declared.key.Key.{Key}
+use Rattle.plan_model.specs.Messages.{deal_message, deal_messages}
+use Rattle.plan_model.specs.Numbers.{message}
 use Rattle.list_laws.proofs.Totals.{total_eq, total_zero, total_one}
-use Rattle.party_program.specs.Programs.{to}
-use Rattle.party_program.specs.States.{Given}
+use Rattle.program_model.specs.Programs.{to}
+use Rattle.program_model.specs.States.{Given}
 use Rattle.program_laws.proofs.SlotTakes.{tally, Has}
 
 pub total_only : (n k : ℕ) (f : ℕ → ℕ) → k < n → ((j : ℕ) → j < n → j ≢ k → f j ≡ 0) → total n f ≡ f k

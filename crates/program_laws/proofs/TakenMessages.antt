@@ -13,17 +13,17 @@ use Rattle.session_slots.specs.Sessions.{Slot, carries, no_kept, no_session, ses
 use Rattle.session_slots.specs.Sessions.Slot.{Input, At_gate, Output, Mask, Mask_product, Masked, Kept}
 use Rattle.session_slots.specs.Carries.{IsKeptAt, kept_place}
 use Rattle.session_slots.specs.SoundSessions.{Inside}
-use Rattle.job_session.proofs.Carries.{kept_have_places}
+use Rattle.session_slots.proofs.Carries.{kept_have_places}
 use Rattle.session_slots.proofs.SessionSlots.{slots_are_numbered}
-use Rattle.job_plan.specs.Plans.{Plan, IsPlan, keeping_slot, session, slot, slot_number, slots}
-use Rattle.job_plan.specs.Firsts.{count, numbers}
-use Rattle.job_plan.specs.Messages.{messages, slot_messages, input_messages}
-use Rattle.job_plan.specs.Numbers.{message}
-use Rattle.job_plan.proofs.KeptPlaces.{kept_in}
-use Rattle.job_plan.proofs.Slots.{at_its_number}
-use Rattle.party_program.specs.Programs.{taken, taken_in, input_taken, taken_as, taking_session}
-use Rattle.party_program.specs.States.{slot_of, taking_slot}
-use Rattle.party_program.specs.Proper.{IsTakenMessage}
+use Rattle.plan_model.specs.Plans.{Plan, IsPlan, keeping_slot, session, slot, slot_number, slots}
+use Rattle.plan_model.specs.Firsts.{count, numbers}
+use Rattle.plan_model.specs.Messages.{messages, slot_messages, input_messages}
+use Rattle.plan_model.specs.Numbers.{message}
+use Rattle.plan_model.proofs.KeptPlaces.{kept_in}
+use Rattle.plan_model.proofs.Slots.{at_its_number}
+use Rattle.program_model.specs.Programs.{taken, taken_in, input_taken, taken_as, taking_session}
+use Rattle.program_model.specs.States.{slot_of, taking_slot}
+use Rattle.program_model.specs.Proper.{IsTakenMessage}
 use Rattle.program_laws.specs.Once.{taken_of, taken_at, GiversAreParties, IsSameOrLater}
 use Rattle.program_laws.proofs.SentMessages.{each}
 

@@ -10,16 +10,16 @@ use Rattle.session_slots.specs.Sessions.Slot.{Input, At_gate, Output, Mask, Mask
 use Rattle.session_slots.specs.KeptWires.{is_read, slot_sets, slot_reads, sets_in, reads_in}
 use Rattle.session_slots.specs.EarlyWires.{completes, slot_completes, is_join}
 use Rattle.session_slots.proofs.KeptRows.{sets_one}
-use Rattle.job_plan.specs.Plans.{Plan, IsPlan, scheme, session, slot, slots, is_holder, holder_of, deals_in}
-use Rattle.job_plan.specs.declared.key.Key.{Key}
-use Rattle.job_plan.specs.Numbers.{message}
-use Rattle.job_plan.specs.Sound.{IsSound}
-use Rattle.job_plan.proofs.PlanSchemes.{least_holds}
-use Rattle.party_program.specs.declared.program.Instruction.{Instruction}
-use Rattle.party_program.specs.declared.program.Instruction.TheVariants.{Draw, Deal, Post, Take, Linear, Own, Sum, Open, Join, Deliver, End}
-use Rattle.party_program.specs.Programs.{program, at}
-use Rattle.party_program.specs.Proper.{IsMasked, IsOutput}
-use Rattle.party_program.specs.States.{slot_of}
+use Rattle.plan_model.specs.Plans.{Plan, IsPlan, scheme, session, slot, slots, is_holder, holder_of, deals_in}
+use Rattle.plan_model.specs.declared.key.Key.{Key}
+use Rattle.plan_model.specs.Numbers.{message}
+use Rattle.plan_model.specs.Sound.{IsSound}
+use Rattle.plan_model.proofs.PlanSchemes.{least_holds}
+use Rattle.program_model.specs.declared.instruction.Instruction.{Instruction}
+use Rattle.program_model.specs.declared.instruction.Instruction.TheVariants.{Draw, Deal, Post, Take, Linear, Own, Sum, Open, Join, Deliver, End}
+use Rattle.program_model.specs.Programs.{program, at}
+use Rattle.program_model.specs.Proper.{IsMasked, IsOutput}
+use Rattle.program_model.specs.States.{slot_of}
 use Rattle.program_laws.specs.WordsRead.{gate_at, Deals, TakesInto, Carries, SetsSummand, ReadsSummand}
 use Rattle.program_laws.proofs.FreeSlots.{completes_sets, joined_completes, product_completes, direct_unprepared, no_product}
 use Rattle.program_laws.proofs.ProgramParts.{Multiplied, Fits, NamesMessage, dealing, fits, is_plan}

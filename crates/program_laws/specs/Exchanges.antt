@@ -1,8 +1,8 @@
 -- Instructions that may be exchanged, and lists that become one another by that.
 use Rattle.std.specs.Prelude.{◌≡◌, List}
-use Rattle.party_program.specs.declared.program.Instruction.{Instruction}
-use Rattle.party_program.specs.States.{Given, State, next, after_all}
-use Rattle.party_program.specs.Along.{AllAlong}
+use Rattle.program_model.specs.declared.instruction.Instruction.{Instruction}
+use Rattle.program_model.specs.States.{Given, State, next, after_all}
+use Rattle.program_model.specs.Along.{AllAlong}
 
 -- e may be done before t in place of after it: both lead to the same state, and each finds what it needs
 pub record MayGoFirst (P : Instruction → State → Type 0) (given : Given) (t e : Instruction) : Type 0 where

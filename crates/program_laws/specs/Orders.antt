@@ -1,11 +1,11 @@
 -- Programs of any order in which a party posts before it takes, and which parties can go on.
 use Rattle.std.specs.Prelude.{◌≡◌, ℕ, ◌<◌, ◌≤◌, length, List}
-use Rattle.job_plan.specs.Plans.{Plan}
-use Rattle.job_plan.specs.Messages.{messages}
-use Rattle.job_plan.specs.Numbers.{message}
-use Rattle.party_program.specs.declared.program.Instruction.{Instruction}
-use Rattle.party_program.specs.declared.program.Instruction.TheVariants.{Post, Take}
-use Rattle.party_program.specs.Programs.{at, post}
+use Rattle.plan_model.specs.Plans.{Plan}
+use Rattle.plan_model.specs.Messages.{messages}
+use Rattle.plan_model.specs.Numbers.{message}
+use Rattle.program_model.specs.declared.instruction.Instruction.{Instruction}
+use Rattle.program_model.specs.declared.instruction.Instruction.TheVariants.{Post, Take}
+use Rattle.program_model.specs.Programs.{at, post}
 use Rattle.program_laws.specs.Once.{IsSameOrLater, take_session, take_slot}
 
 -- message n is there, comes from a party, and is taken in session s, in its own slot or behind the session that it is

@@ -2,10 +2,10 @@
 use Rattle.std.specs.Prelude.{◌≡◌, ℕ, ◌<◌, ◌^◌, if◌then◌else◌, [], length, slice_index, slice_index_or}
 use Rattle.list_laws.specs.Lists.{total}
 use Rattle.session_slots.specs.Sessions.{owners}
-use Rattle.job_plan.specs.Plans.{session, gives}
-use Rattle.job_plan.specs.InputWords.{given}
-use Rattle.job_plan.specs.Sound.{IsSound}
-use Rattle.job_plan.specs.Tallies.{tape_length}
+use Rattle.plan_model.specs.Plans.{session, gives}
+use Rattle.plan_model.specs.InputWords.{given}
+use Rattle.plan_model.specs.Sound.{IsSound}
+use Rattle.plan_model.specs.Tallies.{tape_length}
 use Rattle.share_world.specs.Worlds.{World}
 
 -- a plan within the limits, and of party p as many inputs and tape words as that asks for, all of the ring

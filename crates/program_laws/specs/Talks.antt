@@ -1,7 +1,7 @@
 -- What a list of instructions posts and takes, in order.
 use Rattle.std.specs.Prelude.{ℕ, List, [], ◌∷◌, flat_map}
-use Rattle.party_program.specs.declared.program.Instruction.{Instruction}
-use Rattle.party_program.specs.declared.program.Instruction.TheVariants.{Post, Take}
+use Rattle.program_model.specs.declared.instruction.Instruction.{Instruction}
+use Rattle.program_model.specs.declared.instruction.Instruction.TheVariants.{Post, Take}
 
 -- the message that an instruction posts, if it does
 abbrev pub post_no : Instruction → List ℕ

@@ -6,11 +6,11 @@ use Rattle.secret_sharing.specs.Schemes.{has_pair}
 use Rattle.session_slots.specs.Sessions.{Session, Slot, gate, kept_wire, operand, output_wire, mask_wire, product_wire, product_in}
 use Rattle.session_slots.specs.Sessions.Slot.{Input, At_gate, Output, Mask, Mask_product, Masked, Kept}
 use Rattle.session_slots.specs.KeptWires.{is_read, reads_in}
-use Rattle.job_plan.specs.Plans.{Plan, is_holder, holder_of, scheme, session, slot}
-use Rattle.party_program.specs.declared.program.Instruction.{Instruction}
-use Rattle.party_program.specs.declared.program.Instruction.TheVariants.{Draw, Deal, Post, Take, Linear, Own, Sum, Open, Join, Deliver}
-use Rattle.party_program.specs.Programs.{program, at}
-use Rattle.party_program.specs.States.{slot_of, taking_slot}
+use Rattle.plan_model.specs.Plans.{Plan, is_holder, holder_of, scheme, session, slot}
+use Rattle.program_model.specs.declared.instruction.Instruction.{Instruction}
+use Rattle.program_model.specs.declared.instruction.Instruction.TheVariants.{Draw, Deal, Post, Take, Linear, Own, Sum, Open, Join, Deliver}
+use Rattle.program_model.specs.Programs.{program, at}
+use Rattle.program_model.specs.States.{slot_of, taking_slot}
 
 -- the gate of slot k, or the product of masks that is dealt there
 abbrev pub gate_at : Plan → ℕ → ℕ → Gate

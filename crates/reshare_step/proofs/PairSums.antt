@@ -10,7 +10,8 @@ use Rattle.mpc_ring.proofs.Remainders.{same_refl, same_trans, same_add, same_mod
 use Rattle.list_laws.proofs.Totals.{total_eq}
 use Rattle.party_set.specs.Parties.{Structure}
 use Rattle.secret_sharing.specs.Schemes.{own_product}
-use Rattle.product_duty.specs.Duties.{duty, pairs_of, pairs_where, scheme_of}
+use Rattle.product_duty.specs.Duties.{pairs_of, pairs_where}
+use Rattle.secret_sharing.specs.Duties.{duty, scheme_of}
 
 -- the numbers of each pair are below n and below m
 abbrev pub Within : ℕ → ℕ → List (ℕ × ℕ) → Type 0

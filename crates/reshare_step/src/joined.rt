@@ -12,7 +12,7 @@ pub fn joined_summand(ring: Ring, first: bool, d: u64, e: u64, a: u64, b: u64, c
     ensures is { (i : ℕ) → first ≡ nat_eq i 0
         → result ≡ joined_summand (2 ^ ring) d e (λ _. a) (λ _. b) (λ _. c) i }
 {
-    let _ = ring.bits();
+    ring.recall();
     // Modulo 2^64, of which the ring's modulus is a part.
     let sum = c
         .wrapping_add(d.wrapping_mul(b))

@@ -6,7 +6,7 @@
 ghost use Rattle.std.specs.Prelude.{◌≡◌, ℕ, ◌+◌, ◌%◌, ◌^◌, ◌<◌, All, length, slice_index};
 ghost use Rattle.circuit_model.specs.Circuits.{set_at};
 ghost use Rattle.secret_sharing.specs.Schemes.{own_product};
-ghost use Rattle.product_duty.specs.Duties.{scheme_of};
+ghost use Rattle.secret_sharing.specs.Duties.{scheme_of};
 
 mod joined;
 mod local;
@@ -25,7 +25,7 @@ pub fn own_products(ring: Ring, duty: &Duty, p: u32, x: &[u64], y: &[u64]) -> u6
     ensures is { result ≡ own_product (scheme_of ring duty.now) p (slice_index x.now) (slice_index y.now) }
     ensures below { result < 2 ^ ring }
 {
-    let _ = ring.bits();
+    ring.recall();
     // Modulo 2^64, of which the ring's modulus is a part.
     let mut sum: u64 = 0;
     for (i, j) in duty.pairs(p) {

@@ -1,8 +1,7 @@
 //! Linear gates on rows.
 ghost use Rattle.std.specs.Prelude.{◌≡◌, ◌*◌, ◌^◌, ◌<◌, true, false, not, All, slice_index};
 ghost use Rattle.circuit_model.specs.Circuits.{is_product};
-ghost use Rattle.row_steps.specs.Rows.{HasRows, WiresWithin, FillsRow, gate_on_rows};
-ghost use Rattle.row_steps.specs.Rows.{AllOnRows, IsFirstProduct, FillsRows};
+ghost use Rattle.row_steps.specs.Rows.{HasRows, WiresWithin, FillsRow, gate_on_rows, AllOnRows, IsFirstProduct, FillsRows};
 
 use circuit_model::{Gate, Operation};
 use mpc_ring::Ring;

@@ -1,6 +1,5 @@
 //! Words of rows: dealt, drawn, put and read.
-ghost use Rattle.std.specs.Prelude.{◌≡◌, ◌+◌, ◌-◌, ◌*◌, ◌^◌, ◌<◌, ◌≤◌, if◌then◌else◌};
-ghost use Rattle.std.specs.Prelude.{All, length, nat_eq, slice_index, drop};
+ghost use Rattle.std.specs.Prelude.{◌≡◌, ◌+◌, ◌-◌, ◌*◌, ◌^◌, ◌<◌, ◌≤◌, if◌then◌else◌, All, length, nat_eq, slice_index, drop};
 ghost use Rattle.circuit_model.specs.Circuits.{set_at};
 ghost use Rattle.secret_sharing.specs.Schemes.{Scheme, dealt};
 ghost use Rattle.share_layout.specs.Layouts.{least_holder};

@@ -3,8 +3,8 @@ use Rattle.std.proofs.Common.{◌≡◌, ℕ, zero, suc, ◌^◌, ◌<◌, ◌�
 use Rattle.std.specs.Prelude.{slice_index, slice_index_or}
 use Rattle.list_laws.specs.Lists.{total}
 use Rattle.session_slots.specs.Sessions.{owners}
-use Rattle.job_plan.specs.InputWords.{AreInputs, given}
-use Rattle.job_plan.specs.Plans.{gives, session}
+use Rattle.plan_model.specs.InputWords.{AreInputs, given}
+use Rattle.plan_model.specs.Plans.{gives, session}
 use Rattle.sample_maker.specs.Samples.{sample_inputs, sample_plan, sample_word}
 
 -- a and b give a word for each of their two wires, at most 262144, and c gives none

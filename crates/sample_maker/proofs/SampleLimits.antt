@@ -9,12 +9,12 @@ use Rattle.secret_sharing.specs.Schemes.{has_pair}
 use Rattle.session_slots.specs.Counts.{owned, products}
 use Rattle.session_slots.specs.Sessions.{owners, source}
 use Rattle.session_slots.specs.declared.source.Source.TheVariants.{Given}
-use Rattle.job_plan.specs.Plans.{Plan, scheme, session, least_held}
-use Rattle.job_plan.specs.Messages.{messages}
-use Rattle.job_plan.specs.Numbers.{deals}
-use Rattle.job_plan.specs.Tallies.{keeping_messages, party_messages, masks_messages, tape_length}
+use Rattle.plan_model.specs.Plans.{Plan, scheme, session, least_held}
+use Rattle.plan_model.specs.Messages.{messages}
+use Rattle.plan_model.specs.Numbers.{deals}
+use Rattle.plan_model.specs.Tallies.{keeping_messages, party_messages, masks_messages, tape_length}
 use Rattle.job_plan.specs.Limits.{IsPlanRefusal}
-use Rattle.job_plan.proofs.TallyLaws.{deals_is, messages_by_party, tape_length_is}
+use Rattle.plan_model.proofs.TallyLaws.{deals_is, messages_by_party, tape_length_is}
 use Rattle.plan_faults.specs.declared.plan_fault.PlanFault.TheVariants.{TooManyMessages, TooManyWords}
 use Rattle.sample_maker.specs.Samples.{sample_gate, sample_plan, sample_session}
 

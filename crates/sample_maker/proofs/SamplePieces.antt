@@ -3,7 +3,7 @@ use Rattle.std.proofs.Common.{◌≡◌, ℕ, zero, suc, ◌+◌, ◌^◌, ◌<�
 use Rattle.std.specs.Prelude.{slice_index_or}
 use Rattle.std.proofs.lemmas.List.Elements.{All-from_recursion}
 use Rattle.list_laws.proofs.JoinedLists.{length-listed, listed_at, every_listed}
-use Rattle.job_plan.specs.Plans.{words}
+use Rattle.plan_model.specs.Plans.{words}
 use Rattle.tape_words.specs.Seeds.{seed_word}
 use Rattle.tape_words.proofs.SeedLists.{stream_words-inside}
 use Rattle.desk_laws.specs.Pieces.{ArePieces, piece_at}

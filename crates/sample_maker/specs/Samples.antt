@@ -8,12 +8,12 @@ use Rattle.circuit_model.specs.declared.gate.Operation.TheVariants.{Mul, Add, Su
 use Rattle.circuit_model.specs.Netlists.{arity}
 use Rattle.session_slots.specs.declared.values.Owner.TheVariants.{Party}
 use Rattle.session_slots.specs.Sessions.{Session}
-use Rattle.job_plan.specs.Multiply.{three_parties}
-use Rattle.job_plan.specs.Plans.{Plan, plan_of, words}
+use Rattle.plan_model.specs.Multiply.{three_parties}
+use Rattle.plan_model.specs.Plans.{Plan, plan_of, words}
 use Rattle.tape_words.specs.Seeds.{seed_word}
 use Rattle.share_world.specs.Worlds.{World}
 use Rattle.desk_laws.specs.Pieces.{world_of_pieces}
-use Rattle.job_plan.specs.InputWords.{InputLists}
+use Rattle.plan_model.specs.InputWords.{InputLists}
 
 -- the operation of gate j
 abbrev pub sample_operation : ℕ → ℕ → Operation

@@ -3,8 +3,8 @@ use Rattle.std.specs.Prelude.{◌≡◌, ℕ, ◌+◌, ◌-◌, ◌^◌, List, [
 use Rattle.list_laws.specs.Lists.{listed}
 use Rattle.session_slots.specs.Counts.{products}
 use Rattle.session_slots.specs.KeptWires.{live}
-use Rattle.job_plan.specs.Plans.{words}
-use Rattle.job_plan.specs.Messages.{messages}
+use Rattle.plan_model.specs.Plans.{words}
+use Rattle.plan_model.specs.Messages.{messages}
 use Rattle.share_world.specs.Worlds.{plain}
 use Rattle.sample_maker.specs.Samples.{sample_plan, sample_session, sample_world}
 

@@ -1,6 +1,6 @@
 //! The inputs of a sample.
 ghost use Rattle.std.specs.Prelude.{◌≡◌, ◌+◌, ◌<◌, ◌≤◌, [], ◌∷◌, IfOk};
-ghost use Rattle.job_plan.specs.InputWords.{session_words};
+ghost use Rattle.plan_model.specs.InputWords.{session_words};
 ghost use Rattle.sample_maker.specs.Samples.{sample_inputs, sample_plan, sample_word};
 
 use job_limits::MOST_GATES;

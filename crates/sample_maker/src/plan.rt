@@ -1,8 +1,8 @@
 //! The plan of a sample.
 ghost use Rattle.std.specs.Prelude.{◌≡◌, ◌<◌, ◌≤◌, [], IfOk};
 ghost use Rattle.party_set.specs.Parties.{IsQ2};
-ghost use Rattle.job_plan.specs.Multiply.{three_parties};
-ghost use Rattle.job_session.specs.Parts.{CarriesFit};
+ghost use Rattle.plan_model.specs.Multiply.{three_parties};
+ghost use Rattle.session_slots.specs.Carries.{CarriesFit};
 ghost use Rattle.session_slots.specs.SoundSessions.{IsSoundSession};
 ghost use Rattle.sample_maker.specs.Samples.{sample_plan, sample_session};
 

@@ -1,6 +1,6 @@
 //! Samples.
 ghost use Rattle.std.specs.Prelude.{◌≡◌, ◌<◌, ◌≤◌, IfOk};
-ghost use Rattle.job_plan.specs.InputWords.{AreInputs};
+ghost use Rattle.plan_model.specs.InputWords.{AreInputs};
 ghost use Rattle.desk_laws.specs.Pieces.{ArePieces};
 ghost use Rattle.sample_maker.specs.Samples.{sample_inputs, sample_pieces, sample_plan};
 

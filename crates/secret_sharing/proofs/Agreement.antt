@@ -6,7 +6,7 @@ use Rattle.circuit_model.specs.Circuits.{is_product}
 use Rattle.secret_sharing.specs.Schemes.{Scheme, Run, own_product, has_pair, product_summand, local, gate_summands, summands}
 use Rattle.mpc_ring.proofs.Remainders.{Same, same_refl, same_trans, mods_of_same}
 use Rattle.list_laws.proofs.Totals.{total_eq}
-use Rattle.mpc_ring.proofs.Totals.{total_same}
+use Rattle.secret_sharing.proofs.RingTotals.{total_same}
 
 -- x and y have the same summands of this part
 abbrev pub AgreeOn : Scheme → (ℕ → Type 0) → (ℕ → ℕ) → (ℕ → ℕ) → Type 0

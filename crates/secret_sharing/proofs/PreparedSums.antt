@@ -4,7 +4,7 @@ use Rattle.std.proofs.lemmas.Bool.{cond-false, ne_eqb}
 use Rattle.list_laws.specs.Lists.{total}
 use Rattle.mpc_ring.proofs.Remainders.{Same, same_refl, same_add, same_trans, same_mul, same_mod, same_difference, mods_of_same, same_of_mods}
 use Rattle.list_laws.proofs.Totals.{total_add, total_mul_left, total_eq, total_pick}
-use Rattle.mpc_ring.proofs.Totals.{total_same}
+use Rattle.secret_sharing.proofs.RingTotals.{total_same}
 use Rattle.secret_sharing.specs.Schemes.{Scheme, IsScheme}
 use Rattle.secret_sharing.specs.Prepared.{masked, sum_of, prepared_summand, PreparedAddUp}
 use Rattle.secret_sharing.proofs.SummandSums.{difference_sum}

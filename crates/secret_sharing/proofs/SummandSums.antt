@@ -11,7 +11,7 @@ use Rattle.circuit_model.specs.declared.gate.Operation.TheVariants.{Add, Sub, Ne
 use Rattle.secret_sharing.specs.Schemes.{Scheme, IsScheme, Run, IsRun, AddUp, SumIsPlain, dealt, own_product, has_pair, product_summand, local, gate_summands, summands}
 use Rattle.mpc_ring.proofs.Remainders.{Same, same_refl, same_add, same_sym, same_trans, same_mul, same_mod, same_difference, same_cancel, mods_of_same, same_of_mods}
 use Rattle.list_laws.proofs.Totals.{total_add, total_mul, total_mul_left, total_eq, total_zero, total_swap, total_one, total_pick}
-use Rattle.mpc_ring.proofs.Totals.{total_same}
+use Rattle.secret_sharing.proofs.RingTotals.{total_same}
 
 -- ---- one deal
 

@@ -6,3 +6,5 @@ pub mod SlotReads
 pub mod SlotContents
 pub mod GateOrder
 pub mod WiringSlots
+pub mod Carries
+pub mod KeptSessions

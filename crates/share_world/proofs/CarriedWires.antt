@@ -7,8 +7,8 @@ use Rattle.session_slots.specs.declared.source.Source.TheVariants.{Given, Earlie
 use Rattle.session_slots.specs.declared.values.KeptWire.{KeptWire}
 use Rattle.session_slots.specs.Sessions.{Session, owners, source, no_session, no_kept, kept_wire, output_wire}
 use Rattle.session_slots.specs.Carries.{kept_from, kept_place}
-use Rattle.job_session.proofs.Carries.{kept_have_places}
-use Rattle.job_plan.specs.Plans.{Plan, session, KeepsCarried}
+use Rattle.session_slots.proofs.Carries.{kept_have_places}
+use Rattle.plan_model.specs.Plans.{Plan, session, KeepsCarried}
 use Rattle.share_world.specs.Worlds.{World, carried_wire, summands_before, end_summands, values_before, plain}
 
 -- ---- the ends of earlier sessions

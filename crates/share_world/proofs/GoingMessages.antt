@@ -8,9 +8,9 @@ use Rattle.session_slots.specs.declared.source.Source.{Source}
 use Rattle.session_slots.specs.declared.source.Source.TheVariants.{Given, Earlier}
 use Rattle.session_slots.specs.Sessions.{Slot, source}
 use Rattle.session_slots.specs.Sessions.Slot.{Input, At_gate, Output, Mask, Mask_product, Masked, Kept}
-use Rattle.job_plan.specs.declared.key.Key.{Key}
-use Rattle.job_plan.specs.Plans.{Plan, session, is_holder, holder_of, deals_in, opens_to}
-use Rattle.job_plan.specs.Messages.{slot_messages, input_messages, deal_message, deal_messages, open_messages, product_messages}
+use Rattle.plan_model.specs.declared.key.Key.{Key}
+use Rattle.plan_model.specs.Plans.{Plan, session, is_holder, holder_of, deals_in, opens_to}
+use Rattle.plan_model.specs.Messages.{slot_messages, input_messages, deal_message, deal_messages, open_messages, product_messages}
 
 abbrev pub key_of : ℕ → ℕ → ℕ → ℕ → ℕ → Key
 key_of s k i p q = record { session = s; slot = k; share = i; sender = p; receiver = q }

@@ -9,9 +9,9 @@ use Rattle.session_slots.specs.Sessions.Slot.{Kept}
 use Rattle.session_slots.specs.Carries.{kept_place}
 use Rattle.session_slots.specs.SoundSessions.{Inside}
 use Rattle.session_slots.proofs.SessionSlots.{slot_there, number_within}
-use Rattle.job_plan.specs.Plans.{session, slots, slot_number, is_holder, IsPlan}
-use Rattle.job_plan.specs.declared.key.Key.{Key}
-use Rattle.job_plan.specs.Messages.{messages, slot_messages}
+use Rattle.plan_model.specs.Plans.{session, slots, slot_number, is_holder, IsPlan}
+use Rattle.plan_model.specs.declared.key.Key.{Key}
+use Rattle.plan_model.specs.Messages.{messages, slot_messages}
 use Rattle.share_world.specs.Worlds.{World, word}
 use Rattle.share_world.specs.Locals.{key_at, kept_key, local_word, LocalsJoin}
 use Rattle.share_world.proofs.CarriedWires.{kept_there}

@@ -19,9 +19,9 @@ use Rattle.session_slots.specs.Carries.{kept_place}
 use Rattle.session_slots.specs.SoundSessions.{Inside}
 use Rattle.session_slots.specs.SlotNumbers.{first_of_gate}
 use Rattle.session_slots.proofs.SessionSlots.{slot_there, product_within}
-use Rattle.job_plan.specs.declared.key.Key.{Key}
-use Rattle.job_plan.specs.Plans.{Plan, scheme, session, is_holder, holder_of, slot_number, IsPlan, CarriesEarlier}
-use Rattle.job_plan.proofs.PlanSchemes.{duty_is}
+use Rattle.plan_model.specs.declared.key.Key.{Key}
+use Rattle.plan_model.specs.Plans.{Plan, scheme, session, is_holder, holder_of, slot_number, IsPlan, CarriesEarlier}
+use Rattle.plan_model.proofs.PlanSchemes.{duty_is}
 use Rattle.share_world.specs.Worlds.{World, run_of, end_summands, summands_before, source_summands, carried_wire, word, word_in, input_of, tape_word, mask, mask_product, product_of}
 use Rattle.share_world.specs.Locals.{key_at, kept_key, local_deal, local_source, local_mask, local_opened, local_excess, local_mask_product, local_product, local_run, ReadsBefore}
 use Rattle.share_world.specs.Laws.{HeldAreDealt}

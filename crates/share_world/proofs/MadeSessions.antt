@@ -17,7 +17,7 @@ use Rattle.session_slots.specs.declared.source.Source.TheVariants.{Given, Earlie
 use Rattle.session_slots.specs.declared.values.Owner.{Owner}
 use Rattle.session_slots.specs.declared.values.KeptWire.{KeptWire}
 use Rattle.session_slots.specs.Sessions.{Session, gate, owners, source}
-use Rattle.job_plan.specs.Plans.{session, CarriesEarlier}
+use Rattle.plan_model.specs.Plans.{session, CarriesEarlier}
 use Rattle.job_session.specs.Parts.{session_of}
 use Rattle.job_session.proofs.ValueCounts.{owners_long}
 use Rattle.share_world.specs.Worlds.{World, source_value, first_values, values_before, plain, carried_wire}

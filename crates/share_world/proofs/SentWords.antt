@@ -7,12 +7,12 @@ use Rattle.session_slots.specs.Sessions.{Session, Slot, output_wire, kept_wire}
 use Rattle.session_slots.specs.Sessions.Slot.{Input, At_gate, Output, Mask, Mask_product, Masked, Kept}
 use Rattle.session_slots.specs.SoundSessions.{Inside}
 use Rattle.session_slots.proofs.SessionSlots.{slot_there, slot_kinds}
-use Rattle.job_plan.specs.declared.key.Key.{Key}
-use Rattle.job_plan.specs.Messages.{messages, slot_messages}
-use Rattle.job_plan.specs.Numbers.{no_key}
-use Rattle.job_plan.specs.Plans.{Plan, scheme, session, is_holder, holder_of, slots, slot_number, IsPlan}
-use Rattle.job_plan.proofs.DistinctMessages.{every_place}
-use Rattle.job_plan.proofs.PlanSchemes.{least_holds, least_within}
+use Rattle.plan_model.specs.declared.key.Key.{Key}
+use Rattle.plan_model.specs.Messages.{messages, slot_messages}
+use Rattle.plan_model.specs.Numbers.{no_key}
+use Rattle.plan_model.specs.Plans.{Plan, scheme, session, is_holder, holder_of, slots, slot_number, IsPlan}
+use Rattle.plan_model.proofs.DistinctMessages.{every_place}
+use Rattle.plan_model.proofs.PlanSchemes.{least_holds, least_within}
 use Rattle.share_world.specs.Worlds.{World, run_of, word, word_in, tape_word}
 use Rattle.share_world.specs.Locals.{key_at, local_word, local_word_in}
 use Rattle.share_world.specs.Laws.{IsWorld, SentAreWords, OpenedArePlain}

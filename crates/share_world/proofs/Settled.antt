@@ -14,8 +14,8 @@ use Rattle.session_slots.specs.Sessions.Slot.{Input, At_gate, Output, Mask, Mask
 use Rattle.session_slots.specs.SoundSessions.{Inside, IsWired}
 use Rattle.session_slots.specs.SlotNumbers.{first_of_gate, session_slot_number}
 use Rattle.session_slots.specs.KeptWires.{slot_sets, sets_in, reads_in}
-use Rattle.job_plan.specs.Plans.{Plan, session}
-use Rattle.job_plan.specs.Sound.{IsSound}
+use Rattle.plan_model.specs.Plans.{Plan, session}
+use Rattle.plan_model.specs.Sound.{IsSound}
 use Rattle.list_laws.proofs.Tests.{or_true}
 use Rattle.session_slots.proofs.SessionSlots.{slot_there, slot_kinds, number_within}
 use Rattle.share_world.specs.Solutions.{SetBefore, GatesInOrder, IsOrdered, reads_first, reads_second}

@@ -6,14 +6,14 @@ use Rattle.std.proofs.Math.Nat.{mod-lt}
 use Rattle.secret_sharing.specs.Schemes.{summands}
 use Rattle.secret_sharing.specs.Prepared.{prepared_summand}
 use Rattle.secret_sharing.proofs.SummandSums.{dealt_small, summands_below}
-use Rattle.job_plan.specs.declared.key.Key.{Key}
+use Rattle.plan_model.specs.declared.key.Key.{Key}
 use Rattle.session_slots.specs.declared.side.Side.TheVariants.{First, Second}
 use Rattle.session_slots.specs.declared.source.Source.{Source}
 use Rattle.session_slots.specs.declared.source.Source.TheVariants.{Given, Earlier}
 use Rattle.session_slots.specs.Sessions.{Slot, owners, source}
 use Rattle.session_slots.specs.Sessions.Slot.{Input, At_gate, Output, Mask, Mask_product, Masked, Kept}
-use Rattle.job_plan.proofs.PlanSchemes.{plan_is}
-use Rattle.job_plan.specs.Plans.{scheme, session, holder_of, slot, slot_number, place, IsPlan}
+use Rattle.plan_model.proofs.PlanSchemes.{plan_is}
+use Rattle.plan_model.specs.Plans.{scheme, session, holder_of, slot, slot_number, place, IsPlan}
 use Rattle.share_world.specs.Worlds.{World, run_after, run_of, end_summands, summands_before, source_summands, carried_wire, input_of, tape_word, first_summands, mask, mask_product, dealt_product, dealt_value, deal_of, word_in, word}
 use Rattle.share_world.specs.Laws.{IsWorld, IsWhole}
 

@@ -12,7 +12,7 @@ use Rattle.session_slots.specs.declared.source.Source.{Source}
 use Rattle.session_slots.specs.declared.source.Source.TheVariants.{Given, Earlier}
 use Rattle.session_slots.specs.Sessions.{owners, source, given_by, Session, Slot, gate, is_direct, is_prepared}
 use Rattle.session_slots.specs.SoundSessions.{Inside}
-use Rattle.job_plan.specs.Plans.{scheme, session, deals_in, CarriesEarlier}
+use Rattle.plan_model.specs.Plans.{scheme, session, deals_in, CarriesEarlier}
 use Rattle.session_slots.specs.Sessions.Slot.{Input, At_gate, Output, Mask, Mask_product, Masked, Kept}
 use Rattle.share_world.specs.Worlds.{World, run_of, source_summands, summands_before, end_summands, source_value, values_before, value_before, carried_wire, tape_word, mask, mask_product, product_of, deal_of}
 use Rattle.share_world.specs.Solutions.{reads_first, reads_second, SetBefore, GatesInOrder, IsOrdered, dealt_sum, SummandsSolve, AllSolve, AreSummands, OnlySolution, IsSolution, CarriedArePlain}

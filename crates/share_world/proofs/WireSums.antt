@@ -11,7 +11,7 @@ use Rattle.session_slots.specs.declared.source.Source.{Source}
 use Rattle.session_slots.specs.declared.source.Source.TheVariants.{Given, Earlier}
 use Rattle.session_slots.specs.Sessions.{owners, source, Slot}
 use Rattle.session_slots.specs.Sessions.Slot.{Input, At_gate, Mask_product}
-use Rattle.job_plan.specs.Plans.{scheme, session, IsPlan}
+use Rattle.plan_model.specs.Plans.{scheme, session, IsPlan}
 use Rattle.share_world.specs.Worlds.{World, run_of, source_input, source_summands, first_summands, source_value, first_values, summands_before, values_before, value_before, carried_wire, input_of, tape_word, mask, dealt_product, mask_product}
 use Rattle.share_world.specs.Laws.{IsWorld, SumIsPlain}
 use Rattle.mpc_ring.proofs.Remainders.{mods_of_same}
@@ -19,7 +19,7 @@ use Rattle.list_laws.specs.Lists.{total}
 use Rattle.list_laws.proofs.Totals.{total_zero, total_eq}
 use Rattle.secret_sharing.proofs.SummandSums.{dealt_sum, product_sum, sum_is_plain}
 use Rattle.secret_sharing.proofs.PreparedSums.{prepared_sum}
-use Rattle.job_plan.proofs.PlanSchemes.{scheme_is}
+use Rattle.plan_model.proofs.PlanSchemes.{scheme_is}
 
 -- what is dealt in a slot adds up to the product
 dealt_products : (w : World) (s : ℕ) (kind : Slot) → IsPlan w.plan → (x y : ℕ → ℕ)

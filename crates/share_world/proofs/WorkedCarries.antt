@@ -11,11 +11,11 @@ use Rattle.session_slots.specs.SoundSessions.{IsSoundSession}
 use Rattle.session_slots.specs.Sessions.{source, slot_list}
 use Rattle.session_slots.specs.Carries.{carrier, kept_from}
 use Rattle.job_session.proofs.CircuitSessions.{sound_with}
-use Rattle.job_plan.specs.Plans.{session, words, input_count}
-use Rattle.job_plan.specs.Messages.{messages}
-use Rattle.job_plan.specs.Sound.{IsSound}
-use Rattle.job_plan.specs.InputWords.{AreInputs, given}
-use Rattle.job_plan.specs.Tallies.{tape_length}
+use Rattle.plan_model.specs.Plans.{session, words, input_count}
+use Rattle.plan_model.specs.Messages.{messages}
+use Rattle.plan_model.specs.Sound.{IsSound}
+use Rattle.plan_model.specs.InputWords.{AreInputs, given}
+use Rattle.plan_model.specs.Tallies.{tape_length}
 use Rattle.share_world.specs.Laws.{AreTapes}
 use Rattle.share_world.specs.CarriedProduct.{kept_session, carrying_session, carried_plan, carried_world, CarriedPlain, CarriedWhole, CarriedWords}
 use Rattle.share_world.proofs.CarriedWires.{carrier_there}

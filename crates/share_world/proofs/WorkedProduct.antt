@@ -14,13 +14,13 @@ use Rattle.session_slots.specs.declared.values.Owner.{Owner}
 use Rattle.session_slots.specs.declared.values.Owner.TheVariants.{Party}
 use Rattle.session_slots.specs.Sessions.{Session, owners, source, source_from, giver, gate, slot_list}
 use Rattle.session_slots.specs.Carries.{kept_from}
-use Rattle.job_plan.specs.Plans.{session, structure, words, gives}
+use Rattle.plan_model.specs.Plans.{session, structure, words, gives}
 use Rattle.session_slots.specs.SoundSessions.{IsSoundSession}
-use Rattle.job_plan.specs.Messages.{messages}
-use Rattle.job_plan.specs.Sound.{IsSound}
-use Rattle.job_plan.specs.InputWords.{AreInputs, given}
-use Rattle.job_plan.specs.Tallies.{tape_length}
-use Rattle.job_plan.specs.Multiply.{multiply_plan, multiply_session}
+use Rattle.plan_model.specs.Messages.{messages}
+use Rattle.plan_model.specs.Sound.{IsSound}
+use Rattle.plan_model.specs.InputWords.{AreInputs, given}
+use Rattle.plan_model.specs.Tallies.{tape_length}
+use Rattle.plan_model.specs.Multiply.{multiply_plan, multiply_session}
 use Rattle.share_world.specs.Laws.{AreTapes}
 use Rattle.share_world.proofs.CarriedWires.{carrier_there}
 use Rattle.share_world.specs.Multiply.{multiply_world, MultiplyWhole, MultiplyWords, MultiplyPlain}

@@ -4,9 +4,9 @@ use Rattle.std.specs.Prelude.{◌≡◌, false, [], ◌∷◌, map}
 use Rattle.circuit_model.specs.declared.gate.Operation.TheVariants.{Mul}
 use Rattle.session_slots.specs.declared.values.Owner.TheVariants.{Party, Carried}
 use Rattle.session_slots.specs.Sessions.{Session}
-use Rattle.job_plan.specs.Plans.{Plan, plan_of}
-use Rattle.job_plan.specs.Multiply.{three_parties}
-use Rattle.job_plan.specs.Messages.{messages}
+use Rattle.plan_model.specs.Plans.{Plan, plan_of}
+use Rattle.plan_model.specs.Multiply.{three_parties}
+use Rattle.plan_model.specs.Messages.{messages}
 use Rattle.share_world.specs.Worlds.{World, word, plain}
 use Rattle.share_world.specs.Laws.{IsWhole}
 

@@ -3,12 +3,12 @@ use Rattle.std.specs.Prelude.{◌≡◌, ℕ, ◌%◌, ◌^◌, ◌<◌, true, L
 use Rattle.list_laws.specs.Lists.{total}
 use Rattle.secret_sharing.specs.Schemes.{summands}
 use Rattle.session_slots.specs.Sessions.{output_wire, readers}
-use Rattle.job_plan.specs.Plans.{Plan, IsPlan, is_holder, session}
-use Rattle.job_plan.specs.Sound.{IsSound}
-use Rattle.job_plan.specs.Messages.{messages}
-use Rattle.job_plan.specs.Numbers.{message}
-use Rattle.job_plan.specs.Tallies.{tape_length}
-use Rattle.job_plan.specs.InputWords.{AreInputs}
+use Rattle.plan_model.specs.Plans.{Plan, IsPlan, is_holder, session}
+use Rattle.plan_model.specs.Sound.{IsSound}
+use Rattle.plan_model.specs.Messages.{messages}
+use Rattle.plan_model.specs.Numbers.{message}
+use Rattle.plan_model.specs.Tallies.{tape_length}
+use Rattle.plan_model.specs.InputWords.{AreInputs}
 use Rattle.share_world.specs.Worlds.{World, run_of, end_summands, plain, word}
 use Rattle.share_world.specs.Locals.{local_run, local_word, local_output}
 

@@ -4,7 +4,7 @@ use Rattle.std.specs.Prelude.{◌≡◌, ℕ, ◌<◌, ◌≤◌, ◌%◌, ◌^�
 use Rattle.list_laws.specs.Lists.{total}
 use Rattle.secret_sharing.specs.Schemes.{Run, dealt, own_product, product_summand, own_value, summands}
 use Rattle.secret_sharing.specs.Prepared.{masked, joined_summand}
-use Rattle.job_plan.specs.declared.key.Key.{Key}
+use Rattle.plan_model.specs.declared.key.Key.{Key}
 use Rattle.session_slots.specs.declared.source.Source.{Source}
 use Rattle.session_slots.specs.declared.source.Source.TheVariants.{Given, Earlier}
 use Rattle.session_slots.specs.Sessions.{owners, source, gate, operand, output_wire, kept_wire, Slot}
@@ -12,8 +12,8 @@ use Rattle.session_slots.specs.Carries.{kept_place}
 use Rattle.session_slots.specs.declared.side.Side.{Side}
 use Rattle.session_slots.specs.declared.side.Side.TheVariants.{First, Second}
 use Rattle.session_slots.specs.SlotNumbers.{first_of_gate}
-use Rattle.job_plan.specs.Plans.{Plan, is_holder, holder_of, scheme, session, slot, slot_number}
-use Rattle.job_plan.specs.Messages.{messages}
+use Rattle.plan_model.specs.Plans.{Plan, is_holder, holder_of, scheme, session, slot, slot_number}
+use Rattle.plan_model.specs.Messages.{messages}
 use Rattle.session_slots.specs.Sessions.Slot.{Input, At_gate, Output, Mask, Mask_product, Masked, Kept}
 use Rattle.share_world.specs.Worlds.{World, input_of, tape_word, mask, word}
 

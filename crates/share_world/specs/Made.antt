@@ -6,7 +6,7 @@ use Rattle.session_slots.specs.declared.values.Owner.{Owner}
 use Rattle.session_slots.specs.declared.values.KeptWire.{KeptWire}
 use Rattle.job_session.specs.Parts.{session_of}
 use Rattle.session_slots.specs.Sessions.{Session}
-use Rattle.job_plan.specs.Plans.{session}
+use Rattle.plan_model.specs.Plans.{session}
 use Rattle.share_world.specs.Worlds.{World, first_values, plain}
 use Rattle.share_world.specs.Solutions.{GatesInOrder}
 

@@ -1,7 +1,7 @@
 -- The worked job of one product: 5 times 7, in the ring of 8 bits.
 use Rattle.std.specs.Prelude.{◌≡◌, [], ◌∷◌, map}
-use Rattle.job_plan.specs.Messages.{messages}
-use Rattle.job_plan.specs.Multiply.{multiply_plan}
+use Rattle.plan_model.specs.Messages.{messages}
+use Rattle.plan_model.specs.Multiply.{multiply_plan}
 use Rattle.share_world.specs.Worlds.{World, word, plain}
 use Rattle.share_world.specs.Laws.{IsWhole}
 

@@ -11,7 +11,7 @@ use Rattle.session_slots.specs.Sessions.{owners, source, Session, Slot, gate, is
 use Rattle.session_slots.specs.Sessions.Slot.{Input, At_gate, Mask_product}
 use Rattle.session_slots.specs.declared.side.Side.TheVariants.{First, Second}
 use Rattle.session_slots.specs.SoundSessions.{Inside}
-use Rattle.job_plan.specs.Plans.{Plan, scheme, session, deals_in, CarriesEarlier}
+use Rattle.plan_model.specs.Plans.{Plan, scheme, session, deals_in, CarriesEarlier}
 use Rattle.share_world.specs.Worlds.{World, input_of, tape_word, mask, carried_wire, end_summands, plain, deal_of}
 
 -- the operation reads the first wire of its gate

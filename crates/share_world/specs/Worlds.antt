@@ -8,12 +8,12 @@ use Rattle.session_slots.specs.declared.source.Source.TheVariants.{Given, Earlie
 use Rattle.session_slots.specs.Sessions.{owners, source, output_wire, carried_output, kept_wire, operand, Slot, gate}
 use Rattle.session_slots.specs.declared.side.Side.{Side}
 use Rattle.session_slots.specs.declared.side.Side.TheVariants.{First, Second}
-use Rattle.job_plan.specs.Plans.{Plan, scheme, session, slot, slot_number, place, given_before, holder_of, least_held}
-use Rattle.job_plan.specs.declared.key.Key.{Key}
-use Rattle.job_plan.specs.Messages.{messages}
+use Rattle.plan_model.specs.Plans.{Plan, scheme, session, slot, slot_number, place, given_before, holder_of, least_held}
+use Rattle.plan_model.specs.declared.key.Key.{Key}
+use Rattle.plan_model.specs.Messages.{messages}
 use Rattle.party_set.specs.Parties.{has_party}
 use Rattle.session_slots.specs.Sessions.Slot.{Input, At_gate, Output, Mask, Mask_product, Masked, Kept}
-use Rattle.job_plan.specs.InputWords.{InputLists}
+use Rattle.plan_model.specs.InputWords.{InputLists}
 
 -- a plan, with the inputs and the tapes of all parties
 pub record World : Type 0 where

@@ -2,7 +2,7 @@
 #![tactic(auto)]
 
 ghost use Rattle.std.specs.Prelude.{ℕ};
-ghost use Rattle.job_plan.specs.Plans.{IsPlan, CarriesEarlier};
+ghost use Rattle.plan_model.specs.Plans.{IsPlan, CarriesEarlier};
 ghost use Rattle.share_world.specs.Worlds.{World};
 ghost use Rattle.share_world.specs.Laws.{IsWorld, SumIsPlain, HeldAreDealt, SentAreWords, OpenedArePlain};
 ghost use Rattle.share_world.specs.Locals.{LocalsJoin, ReadsBefore};

@@ -22,10 +22,10 @@ use Rattle.session_slots.specs.Sessions.{Session, Slot, given_by, owners, source
 use Rattle.session_slots.specs.Sessions.Slot.{Input, At_gate, Output, Mask, Mask_product, Masked, Kept}
 use Rattle.session_slots.specs.SoundSessions.{Inside}
 use Rattle.session_slots.proofs.SessionSlots.{slots_are_numbered}
-use Rattle.job_plan.specs.Plans.{Plan, session, slot, slots, words, words_in, place, deals_in}
-use Rattle.job_plan.specs.InputWords.{AreInputs, session_words}
-use Rattle.job_plan.specs.Sound.{IsSound}
-use Rattle.job_plan.proofs.Slots.{at_its_number}
+use Rattle.plan_model.specs.Plans.{Plan, session, slot, slots, words, words_in, place, deals_in}
+use Rattle.plan_model.specs.InputWords.{AreInputs, session_words}
+use Rattle.plan_model.specs.Sound.{IsSound}
+use Rattle.plan_model.proofs.Slots.{at_its_number}
 use Rattle.share_world.specs.Laws.{IsWhole}
 use Rattle.share_world.specs.Solutions.{GatesInOrder}
 use Rattle.share_world.specs.Worlds.{World, input_of, source_value, tape_word, run_of, value_before, values_before, plain, mask}

@@ -11,13 +11,13 @@ use Rattle.list_laws.proofs.JoinedLists.{length-joined, length-listed, listed_at
 use Rattle.party_set.specs.Parties.{has_party, within}
 use Rattle.party_set.proofs.EveryNumber.{every_at as below_at, every_not, implies_at, implies_not}
 use Rattle.maximal_groups.specs.Families.{LiesWithin}
-use Rattle.job_plan.specs.InputWords.{AreInputs}
-use Rattle.job_plan.specs.Tallies.{tape_length}
+use Rattle.plan_model.specs.InputWords.{AreInputs}
+use Rattle.plan_model.specs.Tallies.{tape_length}
 use Rattle.session_slots.specs.Sessions.{Slot, output_wire, owners, source}
 use Rattle.session_slots.specs.SoundSessions.{Inside}
 use Rattle.session_slots.proofs.SessionSlots.{slots_are_numbered}
-use Rattle.job_plan.specs.Plans.{Plan, structure, is_holder, session, slot, slots, slot_number, words_in, words, place}
-use Rattle.job_plan.proofs.Slots.{at_its_number}
+use Rattle.plan_model.specs.Plans.{Plan, structure, is_holder, session, slot, slots, slot_number, words_in, words, place}
+use Rattle.plan_model.proofs.Slots.{at_its_number}
 use Rattle.share_world.specs.Worlds.{World, input_of, tape_word}
 use Rattle.share_world.specs.Laws.{IsWhole, AreTapes}
 use Rattle.share_world.proofs.SmallWords.{small_words}

@@ -21,9 +21,9 @@ use Rattle.session_slots.specs.Sessions.{Slot, given_by, owners, source, gate, o
 use Rattle.session_slots.specs.Sessions.Slot.{Input, At_gate, Output, Mask, Mask_product, Masked, Kept}
 use Rattle.session_slots.specs.SoundSessions.{Inside}
 use Rattle.session_slots.proofs.SessionSlots.{slots_are_numbered, product_within}
-use Rattle.job_plan.specs.Plans.{Plan, scheme, session, slot, is_holder, holder_of, least_held, deals_in, words_in}
-use Rattle.job_plan.proofs.PlanSchemes.{scheme_is, least_holds, least_within}
-use Rattle.job_plan.proofs.TapePlaces.{masks_have_words}
+use Rattle.plan_model.specs.Plans.{Plan, scheme, session, slot, is_holder, holder_of, least_held, deals_in, words_in}
+use Rattle.plan_model.proofs.PlanSchemes.{scheme_is, least_holds, least_within}
+use Rattle.plan_model.proofs.TapePlaces.{masks_have_words}
 use Rattle.share_world.specs.Worlds.{World, carried_wire, end_summands, run_of, source_summands, first_summands, first_values, summands_before, values_before, value_before, tape_word, mask, mask_product, dealt_value, deal_of, masked_summand}
 use Rattle.share_world.specs.Laws.{IsWorld}
 use Rattle.share_world.proofs.CarriedWires.{ended_summands}

@@ -11,10 +11,10 @@ use Rattle.list_laws.specs.Lists.{joined, listed}
 use Rattle.list_laws.specs.Checks.{◌answers◌, first_fault}
 use Rattle.party_set.specs.Parties.{Structure, has_party, within}
 use Rattle.maximal_groups.specs.Families.{LiesWithin}
-use Rattle.job_plan.specs.InputWords.{AreInputs}
+use Rattle.plan_model.specs.InputWords.{AreInputs}
 use Rattle.session_slots.specs.Sessions.{Session, no_session, owners, source, readers, output_wire}
-use Rattle.job_plan.specs.Plans.{Plan, structure, session, reads}
-use Rattle.job_plan.specs.Sound.{IsSound}
+use Rattle.plan_model.specs.Plans.{Plan, structure, session, reads}
+use Rattle.plan_model.specs.Sound.{IsSound}
 use Rattle.share_world.specs.Laws.{IsWhole}
 use Rattle.share_world.specs.Worlds.{World, input_of, plain}
 use Rattle.wire_tables.specs.WireTables.{value_at, value_list, value_lists}

@@ -12,8 +12,8 @@ use Rattle.circuit_model.specs.declared.gate.Operation.TheVariants.{Add, Sub, Ne
 use Rattle.circuit_model.specs.Netlists.{arity, inputs_read, read_by}
 use Rattle.circuit_model.proofs.SetAt.{set_there}
 use Rattle.session_slots.specs.Sessions.{Session, gate}
-use Rattle.job_plan.specs.Plans.{session}
-use Rattle.job_plan.specs.Sound.{IsSound}
+use Rattle.plan_model.specs.Plans.{session}
+use Rattle.plan_model.specs.Sound.{IsSound}
 use Rattle.share_world.specs.Solutions.{SetBefore, GatesInOrder, reads_first, reads_second}
 use Rattle.share_world.specs.Worlds.{World, value_before, plain}
 use Rattle.share_world.proofs.Settled.{of_one, in_order, settled}

@@ -4,7 +4,7 @@ use Rattle.std.specs.Prelude.{IfSome, not}
 use Rattle.list_laws.specs.Lists.{joined}
 use Rattle.list_laws.specs.Checks.{◌answers◌, first_fault}
 use Rattle.session_slots.specs.Sessions.{owners, readers}
-use Rattle.job_plan.specs.Plans.{session}
+use Rattle.plan_model.specs.Plans.{session}
 use Rattle.share_world.specs.Worlds.{World}
 use Rattle.tape_map.specs.MapFaults.{HasRecipientBelow, input_check, input_checks, output_checks, map_fault, is_tolerated}
 use Rattle.tape_map.specs.declared.fault.MapFault.{MapFault}

@@ -3,7 +3,7 @@ use Rattle.std.proofs.Common.{◌≡◌, ℕ, zero, suc, List, length, refl, ap,
 use Rattle.circuit_model.specs.Circuits.{set_at}
 use Rattle.mpc_ring.specs.Differences.{difference}
 use Rattle.std.specs.Prelude.{◌^◌}
-use Rattle.job_plan.specs.Plans.{session}
+use Rattle.plan_model.specs.Plans.{session}
 use Rattle.share_world.specs.Worlds.{World, plain, value_before, values_after, values_before}
 use Rattle.tape_map.specs.TapeMaps.{delta, second_world, changed_tapes, with_inputs, with_tapes}
 

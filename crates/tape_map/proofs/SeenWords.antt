@@ -11,12 +11,12 @@ use Rattle.session_slots.specs.Sessions.{Slot, kept_wire, readers, output_wire}
 use Rattle.session_slots.specs.Sessions.Slot.{Input, At_gate, Output, Mask, Mask_product, Masked, Kept}
 use Rattle.session_slots.specs.SoundSessions.{Inside}
 use Rattle.session_slots.proofs.SessionSlots.{slots_are_numbered, slot_kinds}
-use Rattle.job_plan.specs.declared.key.Key.{Key}
-use Rattle.job_plan.specs.Messages.{messages, slot_messages}
-use Rattle.job_plan.specs.Numbers.{no_key}
-use Rattle.job_plan.specs.Plans.{session, is_holder, holder_of, slot, slots, slot_number, reads}
-use Rattle.job_plan.proofs.DistinctMessages.{every_place}
-use Rattle.job_plan.proofs.PlanSchemes.{least_holds, least_within}
+use Rattle.plan_model.specs.declared.key.Key.{Key}
+use Rattle.plan_model.specs.Messages.{messages, slot_messages}
+use Rattle.plan_model.specs.Numbers.{no_key}
+use Rattle.plan_model.specs.Plans.{session, is_holder, holder_of, slot, slots, slot_number, reads}
+use Rattle.plan_model.proofs.DistinctMessages.{every_place}
+use Rattle.plan_model.proofs.PlanSchemes.{least_holds, least_within}
 use Rattle.share_world.specs.Locals.{key_at}
 use Rattle.share_world.specs.Worlds.{World, word, word_in, touches, view}
 use Rattle.share_world.proofs.GoingMessages.{Deals, Goes, every_going}

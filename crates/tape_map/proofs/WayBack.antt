@@ -16,8 +16,8 @@ use Rattle.session_slots.specs.Sessions.{Slot, gate, operand}
 use Rattle.session_slots.specs.Sessions.Slot.{Input, At_gate, Output, Mask, Mask_product, Masked, Kept}
 use Rattle.session_slots.specs.SoundSessions.{Inside}
 use Rattle.session_slots.proofs.SessionSlots.{slots_are_numbered}
-use Rattle.job_plan.specs.Plans.{scheme, session, slot, slots, holder_of, least_held, words_in, place}
-use Rattle.job_plan.proofs.Slots.{at_its_number}
+use Rattle.plan_model.specs.Plans.{scheme, session, slot, slots, holder_of, least_held, words_in, place}
+use Rattle.plan_model.proofs.Slots.{at_its_number}
 use Rattle.share_world.specs.Worlds.{World, tape_word, mask, value_before, dealt_value}
 use Rattle.share_world.specs.Laws.{IsWhole}
 use Rattle.share_world.proofs.SmallWords.{is_world, small_words}

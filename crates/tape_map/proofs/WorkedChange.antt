@@ -4,12 +4,12 @@ use Rattle.std.specs.Prelude.{slice_index, slice_index_or, if◌then◌else◌}
 use Rattle.std.proofs.lemmas.Bool.{both_ways}
 use Rattle.list_laws.specs.Lists.{total}
 use Rattle.party_set.specs.Parties.{has_party}
-use Rattle.job_plan.specs.InputWords.{AreInputs, given}
-use Rattle.job_plan.specs.declared.key.Key.{Key}
-use Rattle.job_plan.specs.Multiply.{multiply_plan}
-use Rattle.job_plan.specs.Numbers.{no_key}
+use Rattle.plan_model.specs.InputWords.{AreInputs, given}
+use Rattle.plan_model.specs.declared.key.Key.{Key}
+use Rattle.plan_model.specs.Multiply.{multiply_plan}
+use Rattle.plan_model.specs.Numbers.{no_key}
 use Rattle.session_slots.specs.Sessions.{owners, source, readers, output_wire, slot_list}
-use Rattle.job_plan.specs.Plans.{session, gives, reads}
+use Rattle.plan_model.specs.Plans.{session, gives, reads}
 use Rattle.share_world.specs.Multiply.{multiply_world}
 use Rattle.share_world.specs.Worlds.{input_of, plain}
 use Rattle.share_world.proofs.WorkedProduct.{whole_is}

@@ -1,6 +1,5 @@
 -- The tables of a session by which its tapes are changed.
-use Rattle.std.specs.Prelude.{◌≡◌, ℕ, ◌+◌, ◌^◌, ◌<◌, true, if◌then◌else◌, List, [], length}
-use Rattle.std.specs.Prelude.{slice_index, slice_index_or}
+use Rattle.std.specs.Prelude.{◌≡◌, ℕ, ◌+◌, ◌^◌, ◌<◌, true, if◌then◌else◌, List, [], length, slice_index, slice_index_or}
 use Rattle.list_laws.specs.Lists.{joined, listed, only_if}
 use Rattle.mpc_ring.specs.Differences.{difference}
 use Rattle.circuit_model.specs.Circuits.{is_product}
@@ -10,8 +9,8 @@ use Rattle.session_slots.specs.declared.side.Side.{Side}
 use Rattle.session_slots.specs.declared.side.Side.TheVariants.{First, Second}
 use Rattle.session_slots.specs.Sessions.{Slot, gate, operand, is_prepared, mask_wire, row_names}
 use Rattle.session_slots.specs.Sessions.Slot.{Input, At_gate, Mask, Mask_product}
-use Rattle.job_plan.specs.Plans.{Plan, scheme, session, slot, slots, words_in, place}
-use Rattle.job_plan.specs.InputWords.{session_words}
+use Rattle.plan_model.specs.Plans.{Plan, scheme, session, slot, slots, words_in, place}
+use Rattle.plan_model.specs.InputWords.{session_words}
 use Rattle.wire_tables.specs.Steps.{IsRow}
 use Rattle.tape_map.specs.TapeMaps.{hidden_word, raised}
 use Rattle.tape_map.specs.declared.change.Change.{Change}

@@ -6,12 +6,12 @@ use Rattle.circuit_model.specs.Netlists.{read_by}
 use Rattle.secret_sharing.specs.Schemes.{summands}
 use Rattle.party_set.specs.Parties.{has_party}
 use Rattle.maximal_groups.specs.Families.{LiesWithin}
-use Rattle.job_plan.specs.InputWords.{AreInputs, InputLists}
-use Rattle.job_plan.specs.Messages.{messages}
-use Rattle.job_plan.specs.Numbers.{message}
+use Rattle.plan_model.specs.InputWords.{AreInputs, InputLists}
+use Rattle.plan_model.specs.Messages.{messages}
+use Rattle.plan_model.specs.Numbers.{message}
 use Rattle.session_slots.specs.Sessions.{owners, readers, gate, is_prepared, output_wire, source}
 use Rattle.session_slots.specs.declared.side.Side.{Side}
-use Rattle.job_plan.specs.Plans.{Plan, structure, is_holder, session, reads, slot, slots, words_in}
+use Rattle.plan_model.specs.Plans.{Plan, structure, is_holder, session, reads, slot, slots, words_in}
 use Rattle.share_world.specs.Worlds.{World, input_of, tape_word, mask, masked_summand, dealt_value, run_of, plain, word, touches, view}
 use Rattle.share_world.specs.Laws.{IsWhole, AreTapes}
 use Rattle.tape_map.specs.TapeMaps.{member_gives, hidden_word, with_inputs, with_tapes, tape_of, delta, moved_summands, moved_mask, moved_value, moved_words, tape_map, changed_tapes, second_world}

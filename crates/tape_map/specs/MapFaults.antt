@@ -5,13 +5,12 @@ use Rattle.list_laws.specs.Lists.{joined, listed}
 use Rattle.list_laws.specs.Checks.{◌answers◌, first_fault}
 use Rattle.party_set.specs.Parties.{has_party, within}
 use Rattle.session_slots.specs.Sessions.{owners, readers, output_wire, source}
-use Rattle.job_plan.specs.Plans.{Plan, session, reads}
+use Rattle.plan_model.specs.Plans.{Plan, session, reads}
 use Rattle.share_world.specs.Worlds.{World, input_of, plain}
 use Rattle.tape_map.specs.TapeMaps.{member_gives, with_inputs}
 use Rattle.tape_map.specs.declared.fault.MapFault.{MapFault}
-use Rattle.tape_map.specs.declared.fault.MapFault.TheVariants.{NotTolerated, InputDiffers}
-use Rattle.tape_map.specs.declared.fault.MapFault.TheVariants.{OutputDiffers}
-use Rattle.job_plan.specs.InputWords.{InputLists}
+use Rattle.tape_map.specs.declared.fault.MapFault.TheVariants.{NotTolerated, InputDiffers, OutputDiffers}
+use Rattle.plan_model.specs.InputWords.{InputLists}
 
 -- a maximal group has all parties of this one
 abbrev pub is_tolerated : Plan → ℕ → Bool

@@ -1,11 +1,11 @@
 -- The change of tapes in the worked job of one product.
 use Rattle.std.specs.Prelude.{◌≡◌, ◌≢◌, List, ℕ, [], ◌∷◌}
-use Rattle.job_plan.specs.Multiply.{multiply_plan}
+use Rattle.plan_model.specs.Multiply.{multiply_plan}
 use Rattle.share_world.specs.Worlds.{plain, view}
 use Rattle.share_world.specs.Multiply.{multiply_world}
 use Rattle.tape_map.specs.TapeMaps.{hidden, with_inputs, with_tapes, changed_tapes, second_world}
 use Rattle.tape_map.specs.Laws.{CanHide}
-use Rattle.job_plan.specs.InputWords.{InputLists}
+use Rattle.plan_model.specs.InputWords.{InputLists}
 
 -- the inputs of a and b; c gives none
 abbrev pub given_by : ℕ → ℕ → InputLists

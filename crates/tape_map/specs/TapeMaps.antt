@@ -12,9 +12,9 @@ use Rattle.session_slots.specs.Sessions.{Slot, gate, operand}
 use Rattle.session_slots.specs.Sessions.Slot.{Input, At_gate, Mask, Mask_product}
 use Rattle.session_slots.specs.declared.side.Side.{Side}
 use Rattle.session_slots.specs.declared.side.Side.TheVariants.{First, Second}
-use Rattle.job_plan.specs.Plans.{Plan, scheme, session, slot, slots, words_in, holder_of, least_held}
+use Rattle.plan_model.specs.Plans.{Plan, scheme, session, slot, slots, words_in, holder_of, least_held}
 use Rattle.share_world.specs.Worlds.{World, input_of, tape_word, value_before, mask, dealt_value, run_of}
-use Rattle.job_plan.specs.InputWords.{InputLists}
+use Rattle.plan_model.specs.InputWords.{InputLists}
 
 -- ---- the worlds of one plan
 

@@ -1,8 +1,7 @@
 //! How the tapes of one session change.
-ghost use Rattle.std.specs.Prelude.{◌≡◌, ℕ, ◌+◌, ◌^◌, ◌<◌, ◌≤◌, ◌++◌, ◌%◌, if◌then◌else◌};
-ghost use Rattle.std.specs.Prelude.{All, IfOk, OnOk, length, slice_index};
+ghost use Rattle.std.specs.Prelude.{◌≡◌, ℕ, ◌+◌, ◌^◌, ◌<◌, ◌≤◌, ◌++◌, ◌%◌, if◌then◌else◌, All, IfOk, OnOk, length, slice_index};
 ghost use Rattle.list_laws.specs.Lists.{listed};
-ghost use Rattle.job_plan.specs.Plans.{session};
+ghost use Rattle.plan_model.specs.Plans.{session};
 ghost use Rattle.mpc_ring.specs.Differences.{difference};
 ghost use Rattle.tape_map.specs.TapeMaps.{raised};
 ghost use Rattle.tape_map.specs.Changes.{AreGrowths, product_growth};
@@ -33,7 +32,7 @@ impl Change {
     ghost use Rattle.session_slots.specs.Sessions.{is_prepared};
     ghost use Rattle.session_slots.specs.Sessions.Slot.{At_gate, Mask_product};
     ghost use Rattle.session_slots.specs.SoundSessions.{Inside, slot_of_kind};
-    ghost use Rattle.job_plan.specs.Plans.{session, place, words};
+    ghost use Rattle.plan_model.specs.Plans.{session, place, words};
     ghost use Rattle.share_world.specs.Laws.{IsWhole};
     ghost use Rattle.wire_tables.specs.WireTables.{AreCarried, summand_rows, world_of};
     ghost use Rattle.tape_map.specs.TapeMaps.{hidden, hidden_word};
@@ -248,8 +247,8 @@ struct Growing<'a> {
 
 impl Growing<'_> {
     ghost use Rattle.std.specs.Prelude.{◌≡◌, ◌<◌, IfOk, true, length};
-    ghost use Rattle.job_plan.specs.InputWords.{session_words};
-    ghost use Rattle.job_plan.specs.Plans.{session};
+    ghost use Rattle.plan_model.specs.InputWords.{session_words};
+    ghost use Rattle.plan_model.specs.Plans.{session};
     ghost use Rattle.tape_map.specs.Changes.{IsOfPlan, grown_rows, grown_mask, grown_masks};
 
     // The row of each wire, where the hidden summand grows as the wire does.

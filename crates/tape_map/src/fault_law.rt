@@ -1,6 +1,6 @@
 //! The law of faults.
 ghost use Rattle.std.specs.Prelude.{◌≡◌, ◌↔◌, ℕ, None};
-ghost use Rattle.job_plan.specs.InputWords.{AreInputs, InputLists};
+ghost use Rattle.plan_model.specs.InputWords.{AreInputs, InputLists};
 ghost use Rattle.share_world.specs.Laws.{IsWhole};
 ghost use Rattle.share_world.specs.Worlds.{World};
 ghost use Rattle.tape_map.specs.Laws.{CanHide};

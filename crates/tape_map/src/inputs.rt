@@ -2,7 +2,7 @@
 ghost use Rattle.std.specs.Prelude.{◌≡◌, ℕ, ◌<◌, List, IfOk, length};
 ghost use Rattle.list_laws.specs.Lists.{joined};
 ghost use Rattle.list_laws.specs.Checks.{first_fault};
-ghost use Rattle.job_plan.specs.InputWords.{AreInputs};
+ghost use Rattle.plan_model.specs.InputWords.{AreInputs};
 ghost use Rattle.tape_map.specs.MapFaults.{input_checks};
 
 use crate::differences::{differ, member_gives};

@@ -3,19 +3,14 @@
 
 ghost use Rattle.std.specs.Prelude.{ℕ};
 ghost use Rattle.maximal_groups.specs.Families.{LiesWithin};
-ghost use Rattle.job_plan.specs.Plans.{Plan, structure};
-ghost use Rattle.job_plan.specs.Sound.{IsSound};
+ghost use Rattle.plan_model.specs.Plans.{Plan, structure};
+ghost use Rattle.plan_model.specs.Sound.{IsSound};
 ghost use Rattle.share_world.specs.Worlds.{World};
 ghost use Rattle.share_world.specs.Laws.{IsWhole};
 ghost use Rattle.tape_map.specs.TapeMaps.{hidden};
-ghost use Rattle.tape_map.specs.Laws.{CanHide, SameView, SameWords, SameOutputs};
-ghost use Rattle.tape_map.specs.Laws.{CanGoBack, GoesBack, OneToOne, Onto};
-ghost use Rattle.tape_map.specs.Laws.{IsFirstLacked, MembersStay, OthersStay, WordsMove};
-ghost use Rattle.tape_map.specs.Laws.{SummandsMove, ValuesMove, MasksMove, ExcessStays, InputsChange, SecondIsWhole};
-ghost use Rattle.tape_map.specs.Laws.{AgreesBack, DeltaIsPlain};
-ghost use Rattle.tape_map.specs.Multiply.{CanHideFromA, HiddenFromA, SecondPlain, CanHideFromC};
-ghost use Rattle.tape_map.specs.Multiply.{HiddenFromNobody, HiddenFromC, SeenByBoth};
-ghost use Rattle.job_plan.specs.InputWords.{InputLists};
+ghost use Rattle.tape_map.specs.Laws.{CanHide, SameView, SameWords, SameOutputs, CanGoBack, GoesBack, OneToOne, Onto, IsFirstLacked, MembersStay, OthersStay, WordsMove, SummandsMove, ValuesMove, MasksMove, ExcessStays, InputsChange, SecondIsWhole, AgreesBack, DeltaIsPlain};
+ghost use Rattle.tape_map.specs.Multiply.{CanHideFromA, HiddenFromA, SecondPlain, CanHideFromC, HiddenFromNobody, HiddenFromC, SeenByBoth};
+ghost use Rattle.plan_model.specs.InputWords.{InputLists};
 
 mod change;
 mod differences;

@@ -1,8 +1,7 @@
 //! The change of tapes.
-ghost use Rattle.std.specs.Prelude.{◌≡◌, ℕ, ◌<◌, ◌⊎◌, ◌++◌, Some, IfOk, IfErr, OnOk, length};
-ghost use Rattle.std.specs.Prelude.{replicate, [], slice_index_or};
-ghost use Rattle.job_plan.specs.Plans.{structure, place};
-ghost use Rattle.job_plan.specs.InputWords.{AreInputs, InputLists, session_words};
+ghost use Rattle.std.specs.Prelude.{◌≡◌, ℕ, ◌<◌, ◌⊎◌, ◌++◌, Some, IfOk, IfErr, OnOk, length, replicate, [], slice_index_or};
+ghost use Rattle.plan_model.specs.Plans.{structure, place};
+ghost use Rattle.plan_model.specs.InputWords.{AreInputs, InputLists, session_words};
 ghost use Rattle.share_world.specs.Laws.{IsWhole, AreTapes};
 ghost use Rattle.wire_tables.specs.WireTables.{value_lists, world_given, world_of};
 ghost use Rattle.tape_map.specs.TapeMaps.{hidden, changed_tapes, second_world, with_inputs};

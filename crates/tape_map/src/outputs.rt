@@ -2,9 +2,9 @@
 ghost use Rattle.std.specs.Prelude.{◌≡◌, ◌<◌, length, slice_index};
 ghost use Rattle.list_laws.specs.Lists.{joined, listed};
 ghost use Rattle.list_laws.specs.Checks.{first_fault};
-ghost use Rattle.job_plan.specs.InputWords.{session_words};
+ghost use Rattle.plan_model.specs.InputWords.{session_words};
 ghost use Rattle.session_slots.specs.Sessions.{readers};
-ghost use Rattle.job_plan.specs.Plans.{session};
+ghost use Rattle.plan_model.specs.Plans.{session};
 ghost use Rattle.wire_tables.specs.WireTables.{value_at};
 ghost use Rattle.tape_map.specs.MapFaults.{AreValues, output_check, value_checks};
 

@@ -1,6 +1,6 @@
 -- Cutting the first token off a text.
 use Rattle.std.proofs.Common.{◌≡◌, ℕ, suc, ◌+◌, ◌-◌, ◌≤◌, ◌<◌, Bool, true, false, not, nat_lt, nat_eq, cond, List, [], ◌∷◌, length, take, drop, get_or, Option, Some, None, refl, sym, ◌∙◌, ap, ap₂, subst, arith, drop-cons, length-drop, inl, inr, filter, tests, Bor}
-use Rattle.std.specs.Prelude.{unwrap_or}
+use Rattle.std.specs.Prelude.{unwrap_or, ⊤}
 use Rattle.std.specs.List.{slice_split, position_or_len}
 use Rattle.std.specs.Str.{IsUtf8, IsCharBoundary}
 use Rattle.std.proofs.lemmas.Bool.{lt-ltb, le-ltb, cases_lt, cases_eq, cases_Bool, eqb-true, not-true, not-false}
@@ -10,7 +10,6 @@ use Rattle.std.proofs.lemmas.List.Sums.{prefix_len-le-length, passes_at_first, f
 use Rattle.std.proofs.lemmas.List.Splits.{slice_split-cons_yes, slice_split_none, slice_split_first}
 use Rattle.std.proofs.lemmas.Str.{IsCharBoundary-before_ascii, IsCharBoundary-after_ascii, IsCharBoundary-end, IsCharBoundary-start}
 use Rattle.std.specs.Iterator.{MakesProgress, item_count}
-use Rattle.std.specs.Prelude.{⊤}
 use Rattle.text_tokens.specs.Tokens.{is_blank, not_empty, tokens_of}
 
 pub first_within : (p : ℕ → Bool) (xs : List ℕ) → position_or_len p xs ≤ length xs

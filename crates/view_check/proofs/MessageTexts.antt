@@ -1,7 +1,7 @@
 -- The line of a message and its word, as it is read.
 use Rattle.std.proofs.Common.{◌≡◌, ℕ, ◌^◌, ◌<◌, ◌==◌, inl, inr, nat_eq, nat_lt, Bool, true, false, not, ◌&&◌, ◌||◌, List, [], ◌∷◌, ◌++◌, length, take, get_or, None, refl, sym, ap, ap₂, ◌∙◌, arith, append_assoc}
 use Rattle.std.specs.Prelude.{codes, decimal, slice_index, slice_index_or}
-use Rattle.std.specs.List.{list_all}
+use Rattle.std.specs.List.{list_all, join_with_byte}
 use Rattle.std.specs.Char.{is_ascii_digit}
 use Rattle.std.specs.Str.{bytes_eq, all_ascii_digits}
 use Rattle.std.specs.Str.Parse.{digits_value}
@@ -11,14 +11,13 @@ use Rattle.std.proofs.lemmas.Fmt.{digits_decimal, digits_value-decimal, decimal-
 use Rattle.std.proofs.lemmas.List.Folds.{list_all-append}
 use Rattle.std.proofs.lemmas.List.Splits.{join_with_byte-slice_split}
 use Rattle.std.proofs.lemmas.Slice.Eq.{bytes_eq-Decides}
-use Rattle.std.specs.List.{join_with_byte}
 use Rattle.list_laws.specs.Checks.{◌answers◌, first_fault}
 use Rattle.text_tokens.specs.Tokens.{not_empty}
 use Rattle.text_tokens.specs.Numbers.{is_digits, is_decimal}
 use Rattle.text_tokens.proofs.Values.{digits, all_digits, some_not_empty}
 use Rattle.text_tokens.proofs.Decimals.{decimal_is}
 use Rattle.party_names.specs.Names.{is_name_byte, name_at, AreNames}
-use Rattle.job_plan.specs.declared.key.Key.{Key}
+use Rattle.plan_model.specs.declared.key.Key.{Key}
 use Rattle.view_check.specs.declared.fault.CheckFault.{CheckFault}
 use Rattle.view_check.specs.declared.fault.CheckFault.TheVariants.{BadLine, WrongKey, WrongWord}
 use Rattle.view_check.specs.Lines.{parts_at}

@@ -1,7 +1,7 @@
 -- Each text has one answer.
 use Rattle.std.proofs.Common.{◌≡◌, ◌⊎◌, ℕ, List, inl, inr, Result, Ok, Err, refl}
 use Rattle.party_names.specs.Names.{AreNames}
-use Rattle.job_plan.specs.declared.key.Key.{Key}
+use Rattle.plan_model.specs.declared.key.Key.{Key}
 use Rattle.view_check.specs.declared.fault.CheckFault.{CheckFault}
 use Rattle.view_check.specs.Views.{verdict}
 use Rattle.view_check.specs.Laws.{AreTold, IsView, HasOneAnswer}

@@ -4,13 +4,13 @@ use Rattle.std.specs.Prelude.{slice_index, slice_index_or}
 use Rattle.std.proofs.lemmas.List.{map-append, take_more, take_all, take-append-drop}
 use Rattle.list_laws.specs.Lists.{joined, only_if}
 use Rattle.list_laws.proofs.JoinedLists.{length-listed, listed_at, joined_more}
-use Rattle.job_plan.specs.declared.key.Key.{Key}
-use Rattle.job_plan.specs.declared.pattern.Transfer.{Transfer}
-use Rattle.job_plan.specs.Plans.{slot, slots}
-use Rattle.job_plan.specs.Messages.{slot_messages}
-use Rattle.job_plan.specs.Firsts.{first}
-use Rattle.job_plan.specs.Patterns.{named, transfers, pattern_at}
-use Rattle.job_plan.proofs.RankSearch.{no_transfer}
+use Rattle.plan_model.specs.declared.key.Key.{Key}
+use Rattle.plan_model.specs.declared.pattern.Transfer.{Transfer}
+use Rattle.plan_model.specs.Plans.{slot, slots}
+use Rattle.plan_model.specs.Messages.{slot_messages}
+use Rattle.plan_model.specs.Firsts.{first}
+use Rattle.plan_model.specs.Patterns.{named, transfers, pattern_at}
+use Rattle.plan_model.proofs.RankSearch.{no_transfer}
 use Rattle.program_laws.specs.Once.{IsBetweenParties}
 use Rattle.share_world.specs.Laws.{IsWhole}
 use Rattle.share_world.specs.Worlds.{World, touches, word}
@@ -19,7 +19,8 @@ use Rattle.wire_tables.proofs.MessageSenders.{Stands, stands_so, to_anyone}
 use Rattle.view_check.specs.declared.fault.CheckFault.{CheckFault}
 use Rattle.view_check.specs.declared.fault.CheckFault.TheVariants.{Memory}
 use Rattle.view_text.specs.Seen.{seen_of, IsMessage}
-use Rattle.view_text.proofs.SeenMessages.{seen-append, slot_named, transfer_is}
+use Rattle.view_text.proofs.SeenMessages.{seen-append, transfer_is}
+use Rattle.plan_model.proofs.NamedTransfers.{named_slot}
 use Rattle.view_check.specs.Views.{Place, Passes, Stops}
 use Rattle.view_check.proofs.Walks.{joined_front, passes_then, passes_same, stops_then, stops_more, stops_same}
 
@@ -35,7 +36,7 @@ pub record HasRow (w : World) (rows : List (List ℕ)) (key : Key) : Type 0 wher
 
 module _ (w : World) (whole : IsWhole w) (s k : ℕ) (ls : s < length w.plan.sessions) (lk : k < slots w.plan s) (xs : List Transfer) (are : xs ≡ transfers w.plan (pattern_at w.plan s k)) where
   pub slot_is : slot_messages w.plan s k (slot w.plan s k) ≡ map (named s k) xs
-  slot_is = slot_named w.plan s k xs are
+  slot_is = sym (named_slot w.plan s k xs are)
 
   module _ (i : ℕ) (l : i < length xs) where
     abbrev transfer : Transfer

@@ -8,7 +8,7 @@ use Rattle.list_laws.specs.Lists.{joined, only_if}
 use Rattle.party_set.specs.Parties.{has_party}
 use Rattle.party_names.specs.Names.{is_name_byte, name_at, AreNames}
 use Rattle.text_parts.specs.Parts.{member_text, group_text}
-use Rattle.job_plan.specs.declared.key.Key.{Key}
+use Rattle.plan_model.specs.declared.key.Key.{Key}
 use Rattle.view_check.specs.Lines.{lines_of}
 use Rattle.view_check.specs.Heads.{head_line}
 use Rattle.view_check.specs.Laws.{IsTold}

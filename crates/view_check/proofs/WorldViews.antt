@@ -3,10 +3,10 @@ use Rattle.std.proofs.Common.{◌≡◌, ℕ, ◌+◌, ◌*◌, ◌/◌, ◌%◌
 use Rattle.std.proofs.lemmas.Bool.{eq-eqb}
 use Rattle.std.proofs.lemmas.Nat.{div-mul-add, pow_pos}
 use Rattle.party_set.specs.Parties.{has_party}
-use Rattle.job_plan.specs.Numbers.{message}
+use Rattle.plan_model.specs.Numbers.{message}
 use Rattle.std.specs.Prelude.{MatchResult, IfOk, IfErr}
 use Rattle.party_names.specs.Names.{AreNames}
-use Rattle.job_plan.specs.declared.key.Key.{Key}
+use Rattle.plan_model.specs.declared.key.Key.{Key}
 use Rattle.share_world.specs.Worlds.{view}
 use Rattle.view_check.specs.declared.fault.CheckFault.{CheckFault}
 use Rattle.view_check.specs.declared.fault.CheckFault.TheVariants.{Memory, WrongWord}

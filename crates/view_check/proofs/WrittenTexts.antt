@@ -3,7 +3,7 @@ use Rattle.std.proofs.Common.{◌≡◌, ℕ, ◌+◌, List, [], ◌∷◌, ◌+
 use Rattle.std.specs.Prelude.{decimal}
 use Rattle.std.specs.Option.{option_or}
 use Rattle.party_names.specs.Names.{name_at}
-use Rattle.job_plan.specs.declared.key.Key.{Key}
+use Rattle.plan_model.specs.declared.key.Key.{Key}
 use Rattle.view_text.specs.ViewText.{message_line}
 use Rattle.view_check.specs.MessageLines.{StandsFirst}
 use Rattle.view_check.specs.Views.{Place, lines_fault, Passes}

@@ -1,8 +1,8 @@
 -- What an audit goes by.
 use Rattle.std.specs.Prelude.{◌≡◌, ℕ, List, length}
-use Rattle.job_plan.specs.declared.key.Key.{Key}
-use Rattle.job_plan.specs.Messages.{slot_messages}
-use Rattle.job_plan.specs.Plans.{slot}
+use Rattle.plan_model.specs.declared.key.Key.{Key}
+use Rattle.plan_model.specs.Messages.{slot_messages}
+use Rattle.plan_model.specs.Plans.{slot}
 use Rattle.share_world.specs.Laws.{IsWhole}
 use Rattle.share_world.specs.Worlds.{World}
 use Rattle.wire_tables.specs.WireTables.{world_of}

@@ -2,7 +2,7 @@
 use Rattle.std.specs.Prelude.{◌≡◌, ◌≢◌, ◌↔◌, ◌⊎◌, ℕ, ◌+◌, ◌^◌, ◌<◌, true, List, [], length, take, slice_index_or, Some, Ok, Err}
 use Rattle.std.specs.List.{AllByRecursion}
 use Rattle.party_names.specs.Names.{AreNames}
-use Rattle.job_plan.specs.declared.key.Key.{Key}
+use Rattle.plan_model.specs.declared.key.Key.{Key}
 use Rattle.view_check.specs.declared.fault.CheckFault.{CheckFault}
 use Rattle.view_check.specs.declared.fault.CheckFault.TheVariants.{WrongWord}
 use Rattle.view_check.specs.Lines.{lines_of}

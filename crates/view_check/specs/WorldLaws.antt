@@ -1,10 +1,10 @@
 -- What a verdict says of the words of a world.
 use Rattle.std.specs.Prelude.{◌≡◌, ℕ, ◌-◌, ◌^◌, ◌<◌, true, List, map, length, Ok}
 use Rattle.party_names.specs.Names.{AreNames}
-use Rattle.job_plan.specs.Plans.{Plan}
-use Rattle.job_plan.specs.Messages.{messages}
+use Rattle.plan_model.specs.Plans.{Plan}
+use Rattle.plan_model.specs.Messages.{messages}
 use Rattle.share_world.specs.Laws.{IsWhole}
-use Rattle.job_plan.specs.Numbers.{message}
+use Rattle.plan_model.specs.Numbers.{message}
 use Rattle.share_world.specs.Worlds.{World, touches, word, view}
 use Rattle.view_check.specs.Views.{verdict}
 use Rattle.view_text.specs.ViewText.{view_text}

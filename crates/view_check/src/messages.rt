@@ -1,8 +1,8 @@
 //! The check of a written view.
 ghost use Rattle.std.specs.Prelude.{◌≡◌, ◌⊎◌, ℕ, ◌+◌, ◌<◌, ◌∷◌, [], MatchResult, IfOk, IfErr, OnOk, Ok, Err, length, slice_index, slice_index_or};
-ghost use Rattle.job_plan.specs.InputWords.{session_words};
+ghost use Rattle.plan_model.specs.InputWords.{session_words};
 ghost use Rattle.list_laws.specs.Lists.{only_if};
-ghost use Rattle.job_plan.specs.Messages.{session_messages, messages};
+ghost use Rattle.plan_model.specs.Messages.{session_messages, messages};
 ghost use Rattle.share_world.specs.Laws.{IsWhole};
 ghost use Rattle.share_world.specs.Worlds.{touches, view};
 ghost use Rattle.wire_tables.specs.SlotRows.{IsSlotAt};

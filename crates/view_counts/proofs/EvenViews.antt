@@ -6,10 +6,10 @@ use Rattle.std.proofs.lemmas.Bool.{and_parts, and_from, eq-eqb, eqb-true}
 use Rattle.std.proofs.lemmas.Slice.Eq.{slice_eq-Decides}
 use Rattle.list_laws.proofs.JoinedLists.{listed_at}
 use Rattle.session_slots.specs.Sessions.{output_wire}
-use Rattle.job_plan.specs.declared.key.Key.{Key}
-use Rattle.job_plan.specs.Numbers.{same_key}
-use Rattle.job_plan.specs.Plans.{session}
-use Rattle.job_plan.proofs.DistinctMessages.{same_key-true}
+use Rattle.plan_model.specs.declared.key.Key.{Key}
+use Rattle.plan_model.specs.Numbers.{same_key}
+use Rattle.plan_model.specs.Plans.{session}
+use Rattle.plan_model.proofs.DistinctMessages.{same_key-true}
 use Rattle.share_world.specs.Worlds.{World, view}
 use Rattle.tape_map.specs.TapeMaps.{with_inputs, with_tapes, tape_map, changed_tapes}
 use Rattle.tape_map.specs.Laws.{CanHide}

@@ -10,8 +10,8 @@ use mathlib.Core.Logic.{inl, inr}
 use Rattle.list_laws.specs.Lists.{listed}
 use Rattle.list_laws.proofs.JoinedLists.{length-listed, listed_at, every_listed}
 use Rattle.party_set.specs.Parties.{has_party}
-use Rattle.job_plan.specs.Plans.{Plan}
-use Rattle.job_plan.specs.Tallies.{tape_length}
+use Rattle.plan_model.specs.Plans.{Plan}
+use Rattle.plan_model.specs.Tallies.{tape_length}
 use Rattle.share_world.specs.Worlds.{World}
 use Rattle.share_world.specs.Laws.{IsWhole}
 use Rattle.tape_map.specs.TapeMaps.{tape_of}

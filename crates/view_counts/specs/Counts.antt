@@ -5,10 +5,10 @@ use Rattle.std.specs.Cmp.Lexicographic.{pointwise}
 use Rattle.std.specs.List.{flat_map}
 use Rattle.list_laws.specs.Lists.{listed}
 use Rattle.party_set.specs.Parties.{has_party}
-use Rattle.job_plan.specs.declared.key.Key.{Key}
-use Rattle.job_plan.specs.Numbers.{same_key}
-use Rattle.job_plan.specs.Plans.{Plan}
-use Rattle.job_plan.specs.Tallies.{tape_length}
+use Rattle.plan_model.specs.declared.key.Key.{Key}
+use Rattle.plan_model.specs.Numbers.{same_key}
+use Rattle.plan_model.specs.Plans.{Plan}
+use Rattle.plan_model.specs.Tallies.{tape_length}
 use Rattle.share_world.specs.Worlds.{World, view}
 use Rattle.tape_map.specs.TapeMaps.{with_tapes}
 

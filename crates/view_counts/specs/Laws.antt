@@ -5,10 +5,10 @@ use Rattle.std.specs.List.{AllPairs, Contains}
 use Rattle.list_laws.specs.Lists.{total}
 use Rattle.party_set.specs.Parties.{has_party}
 use Rattle.maximal_groups.specs.Families.{LiesWithin}
-use Rattle.job_plan.specs.declared.key.Key.{Key}
-use Rattle.job_plan.specs.InputWords.{AreInputs, InputLists}
-use Rattle.job_plan.specs.Plans.{Plan, structure}
-use Rattle.job_plan.specs.Tallies.{tape_length}
+use Rattle.plan_model.specs.declared.key.Key.{Key}
+use Rattle.plan_model.specs.InputWords.{AreInputs, InputLists}
+use Rattle.plan_model.specs.Plans.{Plan, structure}
+use Rattle.plan_model.specs.Tallies.{tape_length}
 use Rattle.share_world.specs.Worlds.{World}
 use Rattle.share_world.specs.Laws.{IsWhole, AreTapes}
 use Rattle.tape_map.specs.TapeMaps.{with_inputs, with_tapes, tape_of}

@@ -1,6 +1,6 @@
 -- Counts in the worked job of one product, in the ring of one bit.
 use Rattle.std.specs.Prelude.{◌≡◌, ℕ, [], ◌∷◌, length}
-use Rattle.job_plan.specs.Multiply.{multiply_plan}
+use Rattle.plan_model.specs.Multiply.{multiply_plan}
 use Rattle.share_world.specs.Worlds.{World, view}
 use Rattle.tape_map.specs.TapeMaps.{with_inputs}
 use Rattle.tape_map.specs.Multiply.{given_by}

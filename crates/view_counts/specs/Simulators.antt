@@ -5,15 +5,15 @@ use Rattle.list_laws.specs.Lists.{total, listed, some_below}
 use Rattle.mpc_ring.specs.Differences.{difference}
 use Rattle.secret_sharing.specs.Schemes.{summands}
 use Rattle.party_set.specs.Parties.{has_party}
-use Rattle.job_plan.specs.declared.key.Key.{Key}
-use Rattle.job_plan.specs.Messages.{messages}
+use Rattle.plan_model.specs.declared.key.Key.{Key}
+use Rattle.plan_model.specs.Messages.{messages}
 use Rattle.session_slots.specs.Sessions.{Slot, owners, readers, output_wire}
-use Rattle.job_plan.specs.Plans.{Plan, session, gives, reads, slot}
+use Rattle.plan_model.specs.Plans.{Plan, session, gives, reads, slot}
 use Rattle.session_slots.specs.Sessions.Slot.{Output}
 use Rattle.share_world.specs.Worlds.{World, run_of, plain, word_in, touches}
 use Rattle.tape_map.specs.TapeMaps.{hidden, raised, tape_of}
 use Rattle.view_counts.specs.Counts.{choices}
-use Rattle.job_plan.specs.InputWords.{InputLists}
+use Rattle.plan_model.specs.InputWords.{InputLists}
 
 -- ---- what a group knows
 

@@ -4,17 +4,13 @@
 
 ghost use Rattle.std.specs.Prelude.{ℕ, List};
 ghost use Rattle.maximal_groups.specs.Families.{LiesWithin};
-ghost use Rattle.job_plan.specs.Plans.{Plan, structure};
+ghost use Rattle.plan_model.specs.Plans.{Plan, structure};
 ghost use Rattle.share_world.specs.Worlds.{World};
 ghost use Rattle.share_world.specs.Laws.{IsWhole};
 ghost use Rattle.tape_map.specs.Laws.{CanHide};
-ghost use Rattle.view_counts.specs.Laws.{IsPrivate, ViewsAreEven, TestIsEqual};
-ghost use Rattle.view_counts.specs.Laws.{IsSimulated, CanCompare, KnownDecides};
-ghost use Rattle.view_counts.specs.Laws.{ChoicesAreTapes, TapesAreChoices, ChoicesDiffer};
-ghost use Rattle.view_counts.specs.Laws.{ChoicesAreMany, KnowsNoMore, KnowsNoLess};
-ghost use Rattle.view_counts.specs.Multiply.{ChoicesForA, WaysForA, WaysForC, WaysForBoth};
-ghost use Rattle.view_counts.specs.Multiply.{KnownToA, KnownToC};
-ghost use Rattle.job_plan.specs.InputWords.{InputLists};
+ghost use Rattle.view_counts.specs.Laws.{IsPrivate, ViewsAreEven, TestIsEqual, IsSimulated, CanCompare, KnownDecides, ChoicesAreTapes, TapesAreChoices, ChoicesDiffer, ChoicesAreMany, KnowsNoMore, KnowsNoLess};
+ghost use Rattle.view_counts.specs.Multiply.{ChoicesForA, WaysForA, WaysForC, WaysForBoth, KnownToA, KnownToC};
+ghost use Rattle.plan_model.specs.InputWords.{InputLists};
 
 /// What a tolerated group sees passes each test for as many choices of the others' tapes as what
 /// the simulator makes of the plan, the members' inputs, the outputs that they read and their

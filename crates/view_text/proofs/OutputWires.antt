@@ -6,8 +6,8 @@ use Rattle.list_laws.specs.Lists.{total, joined, listed}
 use Rattle.list_laws.proofs.JoinedLists.{joined_eq, listed_at, length-listed}
 use Rattle.session_slots.specs.declared.values.OutputValue.{OutputValue}
 use Rattle.session_slots.specs.Sessions.{readers_of}
-use Rattle.job_plan.specs.Plans.{Plan, session}
-use Rattle.job_plan.specs.Sound.{IsSound}
+use Rattle.plan_model.specs.Plans.{Plan, session}
+use Rattle.plan_model.specs.Sound.{IsSound}
 use Rattle.text_parts.specs.Parts.{words_text}
 use Rattle.view_text.specs.OutLines.{no_output, output_value, wires_before}
 

@@ -1,9 +1,9 @@
 -- What a group sees of some messages, and where a message stands.
 use Rattle.std.specs.Prelude.{◌≡◌, ℕ, ◌<◌, List, filter, map, length}
-use Rattle.job_plan.specs.declared.key.Key.{Key}
-use Rattle.job_plan.specs.Plans.{Plan}
-use Rattle.job_plan.specs.Messages.{messages}
-use Rattle.job_plan.specs.Numbers.{message}
+use Rattle.plan_model.specs.declared.key.Key.{Key}
+use Rattle.plan_model.specs.Plans.{Plan}
+use Rattle.plan_model.specs.Messages.{messages}
+use Rattle.plan_model.specs.Numbers.{message}
 use Rattle.program_laws.specs.Once.{IsBetweenParties}
 use Rattle.share_world.specs.Worlds.{World, touches, word}
 

@@ -2,7 +2,7 @@
 ghost use Rattle.std.specs.Prelude.{◌≡◌, ◌<◌, length};
 ghost use Rattle.party_set.specs.Parties.{has_party};
 ghost use Rattle.outer_io.specs.Blocks.{Adds};
-ghost use Rattle.job_plan.specs.Plans.{session};
+ghost use Rattle.plan_model.specs.Plans.{session};
 ghost use Rattle.view_text.specs.OutLines.{out_head, output_value};
 
 use job_plan::{OutputValue, Plan};

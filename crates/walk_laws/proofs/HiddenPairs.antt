@@ -3,8 +3,8 @@ use Rattle.std.proofs.Common.{◌≡◌, ℕ, List, Option, None, Some, Ok, sym,
 use Rattle.toml.specs.Data.{Members as Fields}
 use Rattle.toml_fields.specs.Documents.{document_of}
 use Rattle.list_laws.proofs.FirstFaults.{or_fault-ok}
-use Rattle.job_plan.specs.Plans.{Plan}
-use Rattle.job_plan.specs.InputWords.{AreInputs}
+use Rattle.plan_model.specs.Plans.{Plan}
+use Rattle.plan_model.specs.InputWords.{AreInputs}
 use Rattle.other_file.specs.Table.{other_fault, other_in, other_in_fields, other_inputs}
 use Rattle.other_file.proofs.GivenInputs.{given_fit}
 use Rattle.share_world.specs.Laws.{IsWhole}

@@ -14,9 +14,9 @@ use Rattle.party_set.specs.Parties.{Structure}
 use Rattle.party_names.specs.Names.{party_named}
 use Rattle.party_names.proofs.NameFaults.{number_at}
 use Rattle.session_slots.specs.Sessions.{Session}
-use Rattle.job_plan.specs.Plans.{Plan, plan_of}
-use Rattle.job_plan.specs.Keeping.{keeping}
-use Rattle.job_plan.specs.Sound.{IsSound}
+use Rattle.plan_model.specs.Plans.{Plan, plan_of}
+use Rattle.session_slots.specs.Carries.{keeping}
+use Rattle.plan_model.specs.Sound.{IsSound}
 use Rattle.frame_code.specs.declared.framing.FrameForm.{FrameForm}
 use Rattle.job_file.specs.Forms.{JobForm, SessionForm, job_form}
 use Rattle.job_file.specs.Faults.{job_in}

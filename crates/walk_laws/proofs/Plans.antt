@@ -8,8 +8,8 @@ use Rattle.expr_circuit.specs.declared.fault.ExprFault.{ExprFault}
 use Rattle.expr_circuit.specs.Circuits.{circuit}
 use Rattle.expr_circuit.proofs.OneAnswer.{one_answer as one_program_only}
 use Rattle.q2_test.specs.CoveringPairs.{IsFirstCovering}
-use Rattle.job_plan.specs.Plans.{Plan}
-use Rattle.job_plan.specs.Tallies.{tape_length}
+use Rattle.plan_model.specs.Plans.{Plan}
+use Rattle.plan_model.specs.Tallies.{tape_length}
 use Rattle.job_plan.specs.Limits.{IsPlanWithin, IsPlanRefusal, IsFirstOverdrawn}
 use Rattle.plan_faults.specs.declared.plan_fault.PlanFault.{PlanFault}
 use Rattle.plan_faults.specs.declared.plan_fault.PlanFault.TheVariants.{TooManyMessages, TooManyWords, Memory}

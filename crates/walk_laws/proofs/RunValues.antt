@@ -17,14 +17,13 @@ use Rattle.refusal_text.specs.Lines.{too_long_line}
 use Rattle.session_slots.specs.Sessions.{Session, no_session, readers, output_wire}
 use Rattle.session_slots.specs.declared.values.KeptWire.{KeptWire}
 use Rattle.session_slots.specs.declared.values.Owner.{Owner}
-use Rattle.session_slots.specs.Carries.{kept_from}
+use Rattle.session_slots.specs.Carries.{kept_from, keeping}
 use Rattle.job_session.specs.Parts.{carries_fault, part_fault, output_values}
 use Rattle.job_session.proofs.ValueCounts.{readers_long}
 use Rattle.job_session.proofs.CircuitSessions.{counts_agree}
-use Rattle.job_plan.specs.Plans.{CarriesEarlier, Plan, plan_of, session}
-use Rattle.job_plan.specs.Keeping.{keeping}
-use Rattle.job_plan.specs.Sound.{IsSound}
-use Rattle.job_plan.proofs.KeptSessions.{keeping_at}
+use Rattle.plan_model.specs.Plans.{CarriesEarlier, Plan, plan_of, session}
+use Rattle.plan_model.specs.Sound.{IsSound}
+use Rattle.session_slots.proofs.KeptSessions.{keeping_at}
 use Rattle.plan_faults.specs.Counts.{counts_fault}
 use Rattle.share_world.specs.Made.{made_of}
 use Rattle.share_world.specs.Worlds.{World, first_values, plain}

@@ -29,7 +29,7 @@ use Rattle.job_file.specs.Forms.{JobForm, by_formula, by_list, adversary_form, i
 use Rattle.job_file.specs.Faults.{adversary_fault, bad_in_lists, bad_name, groups_fault, is_no_party, job_in}
 use Rattle.job_file.specs.declared.field.JobField.TheVariants.{Parties, Formula, Tolerated}
 use Rattle.job_file.specs.declared.fault.JobFault.TheVariants.{BadTolerated, TooManyTolerated}
-use Rattle.job_plan.specs.Plans.{structure}
+use Rattle.plan_model.specs.Plans.{structure}
 use Rattle.job_walk.specs.Verdict.{Then, accepted}
 use Rattle.job_walk.specs.JobOf.{Contents, FormulaOf, GroupsOf, JobText, PlanAt, PlannedOf, Planned, PlanOf, Q2Of, StructureOf, few_groups, file_at, groups_of}
 use Rattle.job_walk.specs.Names as file_names

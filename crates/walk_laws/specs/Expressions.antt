@@ -1,6 +1,6 @@
 -- What a run writes for a session of expressions.
 use Rattle.std.specs.Prelude.{◌≡◌, ℕ, ◌^◌, ◌<◌, false, List, [], ◌∷◌, length, Option, Some, slice_index, slice_get}
-use Rattle.job_plan.specs.Plans.{session}
+use Rattle.plan_model.specs.Plans.{session}
 use Rattle.job_file.specs.Forms.{JobForm, SessionForm}
 use Rattle.job_file.specs.declared.layout.SessionLayout.TheVariants.{Expressions}
 use Rattle.expr_circuit.specs.Programs.{Statement, program_value}

@@ -10,7 +10,7 @@ use Rattle.group_formula.specs.Trees.{Meaning, is_tolerated}
 use Rattle.group_formula.specs.Formulas.{IsFormula}
 use Rattle.job_file.specs.Forms.{is_version_two, text, texts, lists}
 use Rattle.job_file.specs.declared.field.JobField.TheVariants.{Parties, Formula, Tolerated}
-use Rattle.job_plan.specs.Plans.{structure}
+use Rattle.plan_model.specs.Plans.{structure}
 use Rattle.job_walk.specs.Names.{path_of, job_file}
 use Rattle.job_walk.specs.Verdict.{accepted}
 use Rattle.job_walk.specs.JobOf.{Contents}

@@ -13,9 +13,9 @@ use Rattle.mpc_ring.specs.Differences.{difference}
 use Rattle.secret_sharing.specs.Schemes.{Scheme, dealt}
 use Rattle.secret_sharing.specs.Prepared.{masked, sum_of}
 use Rattle.secret_sharing.proofs.SummandSums.{dealt_word, dealt_last}
-use Rattle.job_plan.specs.InputWords.{session_words}
-use Rattle.job_plan.specs.Plans.{Plan, scheme, holder_of, least_held}
-use Rattle.job_plan.proofs.TapePlaces.{held_within}
+use Rattle.plan_model.specs.InputWords.{session_words}
+use Rattle.plan_model.specs.Plans.{Plan, scheme, holder_of, least_held}
+use Rattle.plan_model.proofs.TapePlaces.{held_within}
 use Rattle.wire_tables.specs.Places.{HasMaskWords, mask_at}
 use Rattle.wire_tables.specs.WireTables.{world_of}
 use Rattle.wire_tables.specs.declared.world_data.WorldData.{WorldData}

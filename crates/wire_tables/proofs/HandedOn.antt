@@ -7,9 +7,9 @@ use Rattle.session_slots.specs.declared.source.Source.TheVariants.{Given, Earlie
 use Rattle.session_slots.specs.declared.values.KeptWire.{KeptWire}
 use Rattle.session_slots.specs.Sessions.{Session, carries, kept_wire, no_kept, source}
 use Rattle.session_slots.specs.Carries.{IsKeptAt, kept_place}
-use Rattle.job_session.proofs.Carries.{kept_have_places}
-use Rattle.job_plan.specs.Plans.{Plan, CarriesEarlier, KeepsCarried, session}
-use Rattle.job_plan.specs.Sound.{IsSound}
+use Rattle.session_slots.proofs.Carries.{kept_have_places}
+use Rattle.plan_model.specs.Plans.{Plan, CarriesEarlier, KeepsCarried, session}
+use Rattle.plan_model.specs.Sound.{IsSound}
 use Rattle.share_world.specs.Worlds.{World, carried_wire}
 use Rattle.share_world.proofs.CarriedWires.{carrier_there, kept_there}
 use Rattle.wire_tables.specs.HandedOn.{IsHandedOn}

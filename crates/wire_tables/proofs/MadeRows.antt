@@ -25,8 +25,8 @@ use Rattle.session_slots.specs.SoundSessions.{IsWired}
 use Rattle.session_slots.specs.SlotNumbers.{session_slot_number}
 use Rattle.session_slots.specs.KeptWires.{reads_in, sets_in, slot_sets}
 use Rattle.session_slots.proofs.RowNames.{wires_named, mask_within, product_named}
-use Rattle.job_plan.specs.Plans.{deals_in, scheme, session, slot, slots}
-use Rattle.job_plan.specs.InputWords.{session_words}
+use Rattle.plan_model.specs.Plans.{deals_in, scheme, session, slot, slots}
+use Rattle.plan_model.specs.InputWords.{session_words}
 use Rattle.share_world.specs.Laws.{IsWhole}
 use Rattle.share_world.specs.Solutions.{SummandsSolve, reads_first, reads_second}
 use Rattle.share_world.specs.Worlds.{World, carried_wire, end_summands, input_of, mask, deal_of}

@@ -5,12 +5,12 @@ use Rattle.session_slots.specs.Sessions.{Slot, given_by}
 use Rattle.session_slots.specs.Sessions.Slot.{Input, At_gate, Output, Mask, Mask_product, Masked, Kept}
 use Rattle.session_slots.specs.SoundSessions.{Inside}
 use Rattle.session_slots.proofs.SessionSlots.{slot_there, number_within}
-use Rattle.job_plan.specs.Plans.{Plan, session, slot, slots}
-use Rattle.job_plan.specs.declared.key.Key.{Key}
-use Rattle.job_plan.specs.Messages.{messages}
-use Rattle.job_plan.specs.Numbers.{message, no_key}
-use Rattle.job_plan.proofs.DistinctMessages.{every_place}
-use Rattle.job_plan.proofs.PlanSchemes.{least_within}
+use Rattle.plan_model.specs.Plans.{Plan, session, slot, slots}
+use Rattle.plan_model.specs.declared.key.Key.{Key}
+use Rattle.plan_model.specs.Messages.{messages}
+use Rattle.plan_model.specs.Numbers.{message, no_key}
+use Rattle.plan_model.proofs.DistinctMessages.{every_place}
+use Rattle.plan_model.proofs.PlanSchemes.{least_within}
 use Rattle.share_world.specs.Laws.{IsWhole}
 use Rattle.share_world.specs.Worlds.{World, word_in}
 use Rattle.share_world.proofs.GoingMessages.{Goes}

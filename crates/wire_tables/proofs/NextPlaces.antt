@@ -6,9 +6,9 @@ use Rattle.list_laws.proofs.JoinedLists.{total_within}
 use Rattle.session_slots.specs.Sessions.{Slot}
 use Rattle.session_slots.specs.Sessions.Slot.{Input, At_gate, Output, Mask, Mask_product, Masked, Kept}
 use Rattle.session_slots.specs.declared.side.Side.{Side}
-use Rattle.job_plan.specs.Plans.{Plan, slot, slots, words, words_in, place, deals_in, least_held}
-use Rattle.job_plan.specs.Tallies.{tape_length}
-use Rattle.job_plan.proofs.PlanSchemes.{least_within}
+use Rattle.plan_model.specs.Plans.{Plan, slot, slots, words, words_in, place, deals_in, least_held}
+use Rattle.plan_model.specs.Tallies.{tape_length}
+use Rattle.plan_model.proofs.PlanSchemes.{least_within}
 use Rattle.share_world.specs.Worlds.{World}
 use Rattle.share_world.specs.Laws.{IsWhole}
 use Rattle.share_world.proofs.SmallWords.{is_plan}

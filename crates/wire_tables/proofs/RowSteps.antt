@@ -15,8 +15,8 @@ use Rattle.session_slots.specs.SlotNumbers.{session_slot_number}
 use Rattle.session_slots.specs.KeptWires.{sets_in, reads_in, slot_sets}
 use Rattle.session_slots.proofs.KeptRows.{some_at}
 use Rattle.session_slots.proofs.SessionSlots.{slot_there, slot_count, number_within}
-use Rattle.job_plan.specs.Plans.{session, slot, slots}
-use Rattle.job_plan.specs.InputWords.{session_words}
+use Rattle.plan_model.specs.Plans.{session, slot, slots}
+use Rattle.plan_model.specs.InputWords.{session_words}
 use Rattle.share_world.specs.Laws.{IsWhole}
 use Rattle.share_world.specs.Solutions.{SetBefore}
 use Rattle.share_world.specs.Worlds.{World}

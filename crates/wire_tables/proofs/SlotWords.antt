@@ -8,9 +8,9 @@ use Rattle.session_slots.specs.Sessions.{Slot}
 use Rattle.session_slots.specs.Sessions.Slot.{Mask}
 use Rattle.session_slots.specs.SoundSessions.{Inside}
 use Rattle.session_slots.proofs.SessionSlots.{slots_are_numbered}
-use Rattle.job_plan.specs.Plans.{scheme, session, slot, slots, slot_number, place, holder_of, least_held}
-use Rattle.job_plan.proofs.PlanSchemes.{least_within}
-use Rattle.job_plan.proofs.Slots.{at_its_number}
+use Rattle.plan_model.specs.Plans.{scheme, session, slot, slots, slot_number, place, holder_of, least_held}
+use Rattle.plan_model.proofs.PlanSchemes.{least_within}
+use Rattle.plan_model.proofs.Slots.{at_its_number}
 use Rattle.share_world.specs.Laws.{IsWhole}
 use Rattle.share_world.specs.Worlds.{World, tape_word, mask, dealt_product}
 use Rattle.share_world.proofs.LocalWords.{own_alike}

@@ -14,7 +14,7 @@ use Rattle.session_slots.specs.declared.side.Side.TheVariants.{First, Second}
 use Rattle.session_slots.specs.Sessions.{Session, is_prepared, mask_wire, product_wire, row_names}
 use Rattle.session_slots.specs.Sessions.Slot.{Mask}
 use Rattle.session_slots.proofs.RowNames.{direct_names}
-use Rattle.job_plan.specs.Plans.{Plan, session, holder_of, least_held}
+use Rattle.plan_model.specs.Plans.{Plan, session, holder_of, least_held}
 use Rattle.share_world.specs.Worlds.{World, run_of, mask, mask_product}
 use Rattle.share_world.specs.Laws.{IsWhole}
 use Rattle.share_world.proofs.SmallWords.{positive, small_run, small_words}

@@ -12,10 +12,10 @@ use Rattle.circuit_model.proofs.SetWires.{funext}
 use Rattle.session_slots.specs.declared.source.Source.{Source}
 use Rattle.session_slots.specs.declared.source.Source.TheVariants.{Given, Earlier}
 use Rattle.session_slots.specs.Sessions.{Session, carries, gate, owners, source}
-use Rattle.job_plan.specs.Plans.{session}
-use Rattle.job_plan.specs.Sound.{IsSound}
-use Rattle.job_plan.specs.InputWords.{AreInputs}
-use Rattle.job_plan.proofs.PlanSchemes.{plan_is}
+use Rattle.plan_model.specs.Plans.{session}
+use Rattle.plan_model.specs.Sound.{IsSound}
+use Rattle.plan_model.specs.InputWords.{AreInputs}
+use Rattle.plan_model.proofs.PlanSchemes.{plan_is}
 use Rattle.share_world.specs.Worlds.{World, carried_wire, first_values, input_of, plain, source_input, source_value, values_before}
 use Rattle.share_world.specs.Laws.{IsWorld}
 use Rattle.share_world.proofs.CarriedWires.{ended_values}

@@ -3,7 +3,7 @@
 use Rattle.std.specs.Prelude.{◌≡◌, ℕ, false}
 use Rattle.session_slots.specs.Sessions.{carries, source}
 use Rattle.session_slots.specs.declared.source.Source.TheVariants.{Earlier}
-use Rattle.job_plan.specs.Plans.{Plan, session}
+use Rattle.plan_model.specs.Plans.{Plan, session}
 use Rattle.share_world.specs.Worlds.{carried_wire}
 
 -- each input wire that is carried from session s gets the item of the wire that it carries, and each other one keeps

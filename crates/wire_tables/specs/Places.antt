@@ -1,7 +1,7 @@
 -- Where the words that the parties draw next begin on their tapes.
 use Rattle.std.specs.Prelude.{◌≡◌, ℕ, ◌+◌, ◌-◌, ◌^◌, ◌<◌, ◌≤◌, List, [], length, slice_index, slice_index_or}
 use Rattle.secret_sharing.specs.Schemes.{dealt}
-use Rattle.job_plan.specs.Plans.{Plan, scheme, place, holder_of, least_held}
+use Rattle.plan_model.specs.Plans.{Plan, scheme, place, holder_of, least_held}
 use Rattle.share_world.specs.Worlds.{World}
 
 -- each party's next words begin where those of slot k of session s do

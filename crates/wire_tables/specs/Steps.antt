@@ -4,8 +4,8 @@ use Rattle.std.specs.Global.{Vec}
 use Rattle.list_laws.specs.Lists.{some_below}
 use Rattle.session_slots.specs.Sessions.{row_names}
 use Rattle.session_slots.specs.KeptWires.{sets_in, slot_sets}
-use Rattle.job_plan.specs.Plans.{Plan, session, slot, slots}
-use Rattle.job_plan.specs.InputWords.{session_words}
+use Rattle.plan_model.specs.Plans.{Plan, session, slot, slots}
+use Rattle.plan_model.specs.InputWords.{session_words}
 use Rattle.share_world.specs.Worlds.{World}
 use Rattle.wire_tables.specs.Places.{ArePlaces}
 use Rattle.wire_tables.specs.WireTables.{AreCarried, input_list, summand_rows}

@@ -6,8 +6,8 @@ use Rattle.session_slots.specs.Sessions.{owners, source, is_prepared}
 use Rattle.session_slots.specs.declared.source.Source.TheVariants.{Earlier}
 use Rattle.session_slots.specs.declared.side.Side.{Side}
 use Rattle.session_slots.specs.declared.side.Side.TheVariants.{First, Second}
-use Rattle.job_plan.specs.Plans.{Plan, session}
-use Rattle.job_plan.specs.InputWords.{session_words, InputLists}
+use Rattle.plan_model.specs.Plans.{Plan, session}
+use Rattle.plan_model.specs.InputWords.{session_words, InputLists}
 use Rattle.share_world.specs.Worlds.{World, carried_wire, end_summands, input_of, mask, mask_product, plain}
 use Rattle.wire_tables.specs.declared.world_data.WorldData.{WorldData}
 

@@ -1,6 +1,6 @@
 //! The summands of the wires that sessions carry of those before them.
 ghost use Rattle.std.specs.Prelude.{◌≡◌, ℕ, ◌+◌, ◌<◌, ◌≤◌, IfOk, OnOk, [], if◌then◌else◌, length, nat_eq, slice_index_or};
-ghost use Rattle.job_plan.specs.InputWords.{session_words};
+ghost use Rattle.plan_model.specs.InputWords.{session_words};
 
 use job_plan::Plan;
 use std::alloc::{AllocError, Global};
@@ -15,7 +15,7 @@ pub struct CarriedRows {
 
 impl Model for CarriedRows {
     ghost use Rattle.std.specs.Prelude.{List, ℕ};
-    ghost use Rattle.job_plan.specs.InputWords.{input_words};
+    ghost use Rattle.plan_model.specs.InputWords.{input_words};
 
     ghost Value = { List (List (List ℕ)) };
 
@@ -24,7 +24,7 @@ impl Model for CarriedRows {
 
 impl CarriedRows {
     ghost use Rattle.std.specs.Prelude.{◌≡◌, ◌+◌, ◌<◌, [], IfOk, OnOk, length, slice_index_or};
-    ghost use Rattle.job_plan.specs.Plans.{session};
+    ghost use Rattle.plan_model.specs.Plans.{session};
     ghost use Rattle.share_world.specs.Worlds.{World};
     ghost use Rattle.wire_tables.specs.HandedOn.{IsHandedOn};
     ghost use Rattle.wire_tables.specs.WireTables.{AreCarried, row_at};

@@ -1,6 +1,6 @@
 //! Who deals in a slot, who sends there, and how many words are drawn.
 ghost use Rattle.std.specs.Prelude.{◌≡◌, ◌<◌, length};
-ghost use Rattle.job_plan.specs.Plans.{deals_in, words_in, session};
+ghost use Rattle.plan_model.specs.Plans.{deals_in, words_in, session};
 ghost use Rattle.session_slots.specs.SoundSessions.{Inside, slot_of_kind};
 ghost use Rattle.wire_tables.specs.SlotRows.{may_send};
 

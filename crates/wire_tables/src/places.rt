@@ -1,6 +1,6 @@
 //! Where the words that the parties draw next begin on their tapes.
 ghost use Rattle.std.specs.Prelude.{◌≡◌, ◌+◌, ◌<◌, ◌≤◌, IfOk, length};
-ghost use Rattle.job_plan.specs.Plans.{slots};
+ghost use Rattle.plan_model.specs.Plans.{slots};
 ghost use Rattle.wire_tables.specs.Places.{ArePlaces};
 
 use crate::deals::words_in;

@@ -1,9 +1,8 @@
 //! The summands of one wire: as they are dealt or drawn, and as a gate makes them of other wires.
-ghost use Rattle.std.specs.Prelude.{◌≡◌, ℕ, ◌+◌, ◌%◌, ◌^◌, ◌<◌, ◌≤◌, All, IfOk, OnOk, true, length};
-ghost use Rattle.std.specs.Prelude.{slice_index, take, drop, replicate};
+ghost use Rattle.std.specs.Prelude.{◌≡◌, ℕ, ◌+◌, ◌%◌, ◌^◌, ◌<◌, ◌≤◌, All, IfOk, OnOk, true, length, slice_index, take, drop, replicate};
 ghost use Rattle.list_laws.specs.Lists.{listed, total};
 ghost use Rattle.secret_sharing.specs.Schemes.{has_pair, local, product_summand};
-ghost use Rattle.job_plan.specs.Plans.{scheme};
+ghost use Rattle.plan_model.specs.Plans.{scheme};
 ghost use Rattle.secret_sharing.specs.Prepared.{prepared_summand};
 ghost use Rattle.mpc_ring.specs.Differences.{difference};
 ghost use Rattle.wire_tables.specs.Places.{HasDealWords, HasMaskWords, dealt_at, mask_at};

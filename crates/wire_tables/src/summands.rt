@@ -2,8 +2,8 @@
 ghost use Rattle.std.specs.Prelude.{◌≡◌, ◌<◌, [], IfOk, OnOk, length, slice_index_or};
 ghost use Rattle.session_slots.specs.Sessions.{gate};
 ghost use Rattle.session_slots.specs.Sessions.Slot.{At_gate, Input};
-ghost use Rattle.job_plan.specs.InputWords.{session_words};
-ghost use Rattle.job_plan.specs.Plans.{session, slot};
+ghost use Rattle.plan_model.specs.InputWords.{session_words};
+ghost use Rattle.plan_model.specs.Plans.{session, slot};
 ghost use Rattle.share_world.specs.Laws.{IsWhole};
 ghost use Rattle.share_world.specs.Worlds.{World};
 ghost use Rattle.wire_tables.specs.WireTables.{AreCarried, world_of};
@@ -29,7 +29,7 @@ pub struct SummandTable {
 
 impl Model for SummandTable {
     ghost use Rattle.std.specs.Prelude.{List, ℕ};
-    ghost use Rattle.job_plan.specs.InputWords.{session_words};
+    ghost use Rattle.plan_model.specs.InputWords.{session_words};
 
     ghost Value = { List (List ℕ) };
 

@@ -3,8 +3,8 @@ ghost use Rattle.std.specs.Prelude.{◌≡◌, ℕ, ◌+◌, ◌-◌, ◌^◌, �
 ghost use Rattle.list_laws.specs.Lists.{listed};
 ghost use Rattle.circuit_model.specs.Circuits.{operate, set_at, values};
 ghost use Rattle.session_slots.specs.Sessions.{gate, owners};
-ghost use Rattle.job_plan.specs.Plans.{session};
-ghost use Rattle.job_plan.specs.InputWords.{AreInputs, given, session_words};
+ghost use Rattle.plan_model.specs.Plans.{session};
+ghost use Rattle.plan_model.specs.InputWords.{AreInputs, given, session_words};
 ghost use Rattle.wire_tables.specs.HandedOn.{IsHandedOn};
 ghost use Rattle.wire_tables.specs.WireTables.{input_list, value_at, value_lists};
 

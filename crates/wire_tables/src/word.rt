@@ -1,7 +1,7 @@
 //! The word of one message, by definition.
 ghost use Rattle.std.specs.Prelude.{◌≡◌, ◌<◌, IfOk, length};
-ghost use Rattle.job_plan.specs.Messages.{messages};
-ghost use Rattle.job_plan.specs.Numbers.{message};
+ghost use Rattle.plan_model.specs.Messages.{messages};
+ghost use Rattle.plan_model.specs.Numbers.{message};
 ghost use Rattle.share_world.specs.Laws.{IsWhole};
 ghost use Rattle.share_world.specs.Worlds.{word};
 ghost use Rattle.wire_tables.specs.WireTables.{AreCarried, world_given, world_of};

@@ -6,7 +6,7 @@ use Rattle.circuit_model.specs.declared.fault.CircuitFault.{CircuitFault}
 use Rattle.circuit_model.specs.declared.fault.CircuitFault.TheVariants.{Memory}
 use Rattle.circuit_model.specs.DraftSteps.{Draft, start_of, header_checks, no_gates_yet, after_gate, next_gate, gate_checks, answer_of, Becomes, circuit_of}
 use Rattle.circuit_model.specs.Netlists.{Netlist}
-use Rattle.job_plan.specs.Multiply.{multiply_session}
+use Rattle.plan_model.specs.Multiply.{multiply_session}
 use Rattle.session_slots.specs.declared.values.Owner.TheVariants.{Party}
 use Rattle.job_session.specs.Parts.{session_of}
 

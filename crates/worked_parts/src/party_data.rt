@@ -1,6 +1,6 @@
 //! What the files of a job's parties give, and the world that they open.
 ghost use Rattle.std.specs.Prelude.{◌≡◌, ◌<◌, IfOk, All, length, map};
-ghost use Rattle.job_plan.specs.InputWords.{input_words};
+ghost use Rattle.plan_model.specs.InputWords.{input_words};
 ghost use Rattle.core_world.specs.Moments.{IsRunOfPlan};
 ghost use Rattle.party_file.specs.Forms.{form_of, FitsPlan};
 ghost use Rattle.job_run.specs.Parties.{AllFit};

@@ -4,7 +4,7 @@ use Rattle.std.proofs.lemmas.List.{get_or-drop, at_drop_more, length-take-le, le
 use Rattle.std.proofs.lemmas.Nat.{pow_pos}
 use Rattle.list_laws.specs.Lists.{total}
 use Rattle.mpc_ring.specs.Differences.{difference}
-use Rattle.mpc_ring.proofs.Totals.{total_step_alone}
+use Rattle.secret_sharing.proofs.RingTotals.{total_step}
 use Rattle.deal_step.proofs.DealtSummands.{missing, filled_below, filled_dealt}
 use Rattle.deal_step.proofs.deal_each.Goals as goal
 
@@ -18,7 +18,7 @@ loop-place-preserved c =
     let word : c.next_word-word.result ≡ words i = c.next_word-word.ensures.is ∙ ap (λ t. slice_index t 0) h.tape ∙ get_or-drop i c.args.tape.now 0 0 ∙ ap words none in record {
       tape = c.next_word-word.ensures.tape ∙ ap (drop 1) h.tape ∙ at_drop_more (drop 1) c.args.tape.now i 0 (omega arith);
       words = search rules;
-      sum = c.add-sum.ensures.is ∙ total_step_alone (2 ^ c.args.ring) i words c.loop-place.sum _ h.sum word;
+      sum = c.add-sum.ensures.is ∙ total_step (2 ^ c.args.ring) i words c.loop-place.sum _ h.sum word;
       small = search rules;
       front = below_more _ _
           (λ k l. let ne : k ≡ i → ⊥ = omega arith in rw get_or-set_other (h.front k l))

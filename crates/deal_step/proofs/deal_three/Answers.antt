@@ -5,7 +5,7 @@ use Rattle.std.proofs.lemmas.Nat.{pow_pos}
 use Rattle.std.proofs.Math.Nat.{mod-eq_of_lt}
 use Rattle.list_laws.specs.Lists.{total}
 use Rattle.mpc_ring.specs.Differences.{difference}
-use Rattle.mpc_ring.proofs.Totals.{total_step_alone}
+use Rattle.secret_sharing.proofs.RingTotals.{total_step}
 use Rattle.deal_step.proofs.DealtSummands.{missing, three_dealt}
 use Rattle.deal_step.proofs.deal_three.Goals as goal
 
@@ -19,6 +19,6 @@ returns-clause-dealt c s modulus shares =
     c.next_word-second.ensures.is ∙ ap (λ t. slice_index t 0) c.next_word-first.ensures.tape ∙ get_or-drop 1 c.args.tape.now 0 0 in
     let alone : words 0 ≡ 0 + words 0 = omega arith in
     let one : a ≡ total 1 words % q = sym (mod-eq_of_lt c.next_word-first.ensures.below) ∙ ap (λ z. z % q) (first ∙ alone) in
-    let two = c.add.ensures.is ∙ total_step_alone q 1 words a c.next_word-second.result one second in
+    let two = c.add.ensures.is ∙ total_step q 1 words a c.next_word-second.result one second in
     three_dealt s c.args.value a c.next_word-second.result c.sub.result words c.args.out.now shares c.requires.three first second
     (missing q c.args.value 2 2 c.add.result c.sub.result words (pow_pos c.args.ring) refl two c.sub.ensures.is ∙ ap (λ z. difference z c.args.value (total 2 words)) (sym modulus))

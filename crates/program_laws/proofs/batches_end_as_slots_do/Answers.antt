@@ -1,5 +1,5 @@
 use Rattle.std.proofs.Common.{sym}
-use Rattle.party_program.specs.States.{new_state}
+use Rattle.program_model.specs.States.{new_state}
 use Rattle.program_laws.proofs.LocalPrograms.{by_beginnings, by_batches}
 use Rattle.program_laws.proofs.batches_end_as_slots_do.Goals as goal
 

@@ -12,4 +12,4 @@ loop-i-preserved c =
 
 pub returns-clause-is : goal.returns-clause-is
 returns-clause-is c =
-    all_summed 64 c.args.duty.now c.args.p c.args.x.now c.args.y.now c.args.ring _ _ c.reduce.result (omega (arith, c.bits.ensures.few)) c.in-None.ensures.steps.0 c.loop-i.invariant c.reduce.ensures.is
+    all_summed 64 c.args.duty.now c.args.p c.args.x.now c.args.y.now c.args.ring _ _ c.reduce.result (omega (arith, c.recall.ensures.few)) c.in-None.ensures.steps.0 c.loop-i.invariant c.reduce.ensures.is

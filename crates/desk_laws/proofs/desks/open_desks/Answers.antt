@@ -3,8 +3,8 @@ use Rattle.std.proofs.lemmas.Bool.{cases_lt}
 use Rattle.std.proofs.lemmas.List.{drop_more, length-drop, get_or-append-add}
 use Rattle.std.proofs.Math.ListN.{get_or-append}
 use mathlib.Core.Logic.{inl, inr}
-use Rattle.job_plan.specs.Plans.{words}
-use Rattle.job_plan.specs.InputWords.{given}
+use Rattle.plan_model.specs.Plans.{words}
+use Rattle.plan_model.specs.InputWords.{given}
 use Rattle.party_desk.specs.declared.desk.Desk.{Desk}
 use Rattle.party_desk.specs.Desks.{IsNew}
 use Rattle.desk_laws.proofs.Elements.{by_place, by_element}

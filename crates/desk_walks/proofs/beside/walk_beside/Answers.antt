@@ -1,5 +1,5 @@
 use Rattle.std.proofs.Common.{◌≡◌, true, false, refl, sym, ap, ◌∙◌, subst, arith}
-use Rattle.party_program.specs.States.{Given}
+use Rattle.program_model.specs.States.{Given}
 use Rattle.party_desk.specs.declared.desk.Desk.{Desk}
 use Rattle.desk_walks.specs.Walks.{NothingToCompute}
 use Rattle.desk_walks.proofs.ComputedGates.{none_of_gates}

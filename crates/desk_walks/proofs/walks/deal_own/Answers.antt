@@ -1,10 +1,10 @@
 use Rattle.std.proofs.Common.{◌≡◌, true, sym, subst, arith}
 use Rattle.circuit_model.specs.declared.gate.Gate.{Gate}
 use Rattle.secret_sharing.specs.Schemes.{has_pair}
-use Rattle.job_plan.specs.Plans.{Plan, scheme}
-use Rattle.party_program.specs.declared.half.Half.TheVariants.{Head}
+use Rattle.plan_model.specs.Plans.{Plan, scheme}
+use Rattle.program_model.specs.declared.half.Half.TheVariants.{Head}
 use Rattle.party_program.specs.ProgramPlaces.{InProduct}
-use Rattle.party_program.specs.States.{Given}
+use Rattle.program_model.specs.States.{Given}
 use Rattle.program_laws.specs.WordsRead.{gate_at}
 use Rattle.party_desk.specs.declared.desk.Desk.{Desk}
 use Rattle.party_desk.specs.Memories.{GateWithin}

@@ -1,7 +1,7 @@
 use Rattle.std.proofs.Common.{[], ◌∷◌, ◌^◌, length, sym, subst}
-use Rattle.job_plan.specs.Plans.{slot}
-use Rattle.party_program.specs.declared.program.Instruction.TheVariants.{Linear}
-use Rattle.party_program.specs.States.{computed}
+use Rattle.plan_model.specs.Plans.{slot}
+use Rattle.program_model.specs.declared.instruction.Instruction.TheVariants.{Linear}
+use Rattle.program_model.specs.States.{computed}
 use Rattle.circuit_model.specs.declared.gate.Gate.{Gate}
 use Rattle.party_desk.specs.Memories.{state_of, row_of, on_rows, Alike}
 use Rattle.desk_walks.proofs.GateWalks.{goes_stand, goes_proper}

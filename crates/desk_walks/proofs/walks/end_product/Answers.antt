@@ -1,5 +1,5 @@
 use Rattle.std.proofs.Common.{[], ◌∷◌, sym, subst, length}
-use Rattle.party_program.specs.States.{summed}
+use Rattle.program_model.specs.States.{summed}
 use Rattle.circuit_model.specs.declared.gate.Gate.{Gate}
 use Rattle.party_desk.specs.Memories.{state_of, row_of, on_rows, Alike}
 use Rattle.desk_walks.proofs.GateWalks.{goes_stand, goes_proper}

@@ -1,7 +1,7 @@
 use Rattle.std.proofs.Common.{◌≡◌, ◌+◌, refl, sym, ap, ◌∙◌, subst, arith}
-use Rattle.job_plan.specs.declared.pattern.Pattern.TheVariants.{Silent, Multiplied}
-use Rattle.party_program.specs.declared.half.Half.TheVariants.{Head}
-use Rattle.party_program.specs.declared.program.Instruction.TheVariants.{Linear}
+use Rattle.plan_model.specs.declared.pattern.Pattern.TheVariants.{Silent, Multiplied}
+use Rattle.program_model.specs.declared.half.Half.TheVariants.{Head}
+use Rattle.program_model.specs.declared.instruction.Instruction.TheVariants.{Linear}
 use Rattle.party_desk.specs.Desks.{instruction_at}
 use Rattle.desk_walks.specs.Walks.{IsBefore}
 use Rattle.desk_walks.proofs.ComputedGates.{own_here, sum_here}

@@ -1,6 +1,6 @@
 use Rattle.std.proofs.Common.{◌≡◌, ℕ, ◌+◌, ◌-◌, ◌<◌, length, Some, sym, ap, ◌∙◌, subst, arith}
 use Rattle.session_slots.specs.Sessions.{row_names}
-use Rattle.job_plan.specs.Plans.{session}
+use Rattle.plan_model.specs.Plans.{session}
 use Rattle.desk_walks.specs.Walks.{IsSending, Sends}
 use Rattle.desk_walks.proofs.GatePosts.{head_few, head_listed, head_two, is_post, none_sent, post_is, post_next, post_sent, post_share, post_start, post_word, posted_on, sent_few, sent_within}
 use Rattle.desk_walks.proofs.walks.post_each.Goals as goal

@@ -1,6 +1,6 @@
 use Rattle.std.proofs.Common.{◌+◌, ◌-◌, ◌≤◌}
 use Rattle.message_board.specs.Seats.{IsSeatOf}
-use Rattle.party_program.specs.States.{Given}
+use Rattle.program_model.specs.States.{Given}
 use Rattle.desk_walks.specs.Walks.{HasWords, IsSending, Sends}
 use Rattle.desk_walks.proofs.GatePosts.{posted_on}
 use Rattle.desk_walks.proofs.walks.post_each.Given as goal

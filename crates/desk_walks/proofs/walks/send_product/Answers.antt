@@ -1,11 +1,11 @@
 use Rattle.std.proofs.Common.{◌≡◌, ◌+◌, ◌<◌, ◌==◌, ◌&&◌, Bool, true, false, nat_lt, ap, ap₂, ◌∙◌, sym, subst, arith}
 use Rattle.std.proofs.lemmas.Bool.{and_parts, eq-eqb, eqb-true, lt-ltb, ltb-true}
 use Rattle.secret_sharing.specs.Schemes.{has_pair}
-use Rattle.job_plan.specs.declared.pattern.Pattern.TheVariants.{Silent, Multiplied}
-use Rattle.job_plan.specs.Plans.{Plan, scheme}
-use Rattle.party_program.specs.declared.half.Half.TheVariants.{Head, Tail}
-use Rattle.party_program.specs.States.{Given}
-use Rattle.party_program.specs.Proper.{IsSlot, Multiplies}
+use Rattle.plan_model.specs.declared.pattern.Pattern.TheVariants.{Silent, Multiplied}
+use Rattle.plan_model.specs.Plans.{Plan, scheme}
+use Rattle.program_model.specs.declared.half.Half.TheVariants.{Head, Tail}
+use Rattle.program_model.specs.States.{Given}
+use Rattle.program_model.specs.Proper.{IsSlot, Multiplies}
 use Rattle.party_program.specs.ProgramPlaces.{InProduct}
 use Rattle.program_laws.specs.WordsRead.{gate_at}
 use Rattle.party_desk.specs.declared.desk.Desk.{Desk}

@@ -1,5 +1,5 @@
 use Rattle.std.proofs.Common.{◌≡◌, sym, ap, ◌∙◌, arith}
-use Rattle.party_program.specs.declared.program.Instruction.TheVariants.{Sum}
+use Rattle.program_model.specs.declared.instruction.Instruction.TheVariants.{Sum}
 use Rattle.party_desk.specs.Desks.{instruction_at}
 use Rattle.desk_walks.proofs.GateWalks.{goes_proper, goes_stand}
 use Rattle.desk_walks.proofs.GatePlaces.{among_next, first_computes}

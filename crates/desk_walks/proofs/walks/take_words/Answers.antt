@@ -1,11 +1,11 @@
 use Rattle.std.proofs.Common.{◌≡◌, ℕ, ◌+◌, ◌-◌, ◌<◌, length, slice_get, refl, sym, ◌∙◌, subst, arith}
 use Rattle.std.proofs.lemmas.Option.{slice_get_within}
 use Rattle.session_slots.specs.KeptWires.{sets_in}
-use Rattle.job_plan.specs.Plans.{Plan, session}
+use Rattle.plan_model.specs.Plans.{Plan, session}
 use Rattle.message_board.specs.declared.steps.View.{View}
 use Rattle.message_board.specs.Pairs.{Knows}
-use Rattle.party_program.specs.declared.program.Instruction.TheVariants.{Take}
-use Rattle.party_program.specs.States.{taking_slot, took_in}
+use Rattle.program_model.specs.declared.instruction.Instruction.TheVariants.{Take}
+use Rattle.program_model.specs.States.{taking_slot, took_in}
 use Rattle.party_desk.specs.declared.desk.Desk.{Desk}
 use Rattle.party_desk.specs.Desks.{instruction_at}
 use Rattle.party_desk.specs.Memories.{state_of, row_of, on_rows, Alike, IsMemoryOf}

@@ -1,6 +1,6 @@
 use Rattle.std.proofs.Common.{◌≡◌, ◌+◌, ◌-◌, false, if◌then◌else◌}
 use Rattle.message_board.specs.Seats.{IsSeatOf}
-use Rattle.party_program.specs.States.{Given}
+use Rattle.program_model.specs.States.{Given}
 use Rattle.desk_walks.specs.Walks.{MayWalk, HasLooked, NothingToCompute, Walks}
 use Rattle.desk_walks.proofs.walks.walk_gates.Given as goal
 

@@ -1,6 +1,6 @@
 use Rattle.std.proofs.Common.{◌+◌, sym, subst, arith}
-use Rattle.party_program.specs.declared.half.Half.TheVariants.{Head}
-use Rattle.party_program.specs.Proper.{IsSlot, Multiplies}
+use Rattle.program_model.specs.declared.half.Half.TheVariants.{Head}
+use Rattle.program_model.specs.Proper.{IsSlot, Multiplies}
 use Rattle.desk_walks.specs.Walks.{IsAmongGates, IsBefore, NothingToCompute}
 use Rattle.desk_walks.proofs.GatePlaces.{among_next}
 use Rattle.desk_walks.proofs.GatePosts.{head_stays, head_went}

@@ -1,8 +1,8 @@
 use Rattle.std.proofs.Common.{◌≡◌, ◌≤◌, true, false, sym, ap, ◌∙◌, inl, inr, arith}
 use Rattle.std.specs.Prelude.{not}
 use Rattle.std.proofs.lemmas.Bool.{cases_lt, lt-ltb}
-use Rattle.party_program.specs.declared.half.Half.TheVariants.{Head, Tail}
-use Rattle.party_program.specs.declared.program.Instruction.TheVariants.{Take, End}
+use Rattle.program_model.specs.declared.half.Half.TheVariants.{Head, Tail}
+use Rattle.program_model.specs.declared.instruction.Instruction.TheVariants.{Take, End}
 use Rattle.party_program.proofs.ProgramPlaces.{ends_there}
 use Rattle.desk_walks.proofs.GateWalks.{computes_walk, rest_walks, walks_on}
 use Rattle.desk_walks.proofs.ComputedGates.{linear_here, none_past, own_here, sum_here, waits_through}

@@ -31,7 +31,7 @@ pub circuit-requires : goal.circuit-requires
 circuit-requires c =
     let made = c.loop-rest.invariant.made in
     let all = made.2 ∙ no_line (2 ^ c.args.ring) c.loop-rest.number made.0 c.loop-rest.rest.now (none_bytes (length c.loop-rest.rest.now) (sym c.is_empty.ensures ∙ c.loop-rest-test.false)) in
-    (made.0, made.1, lines_sound c.args.ring c.args.bytes.now made.0 (omega (arith, c.bits.ensures.is, c.bits.ensures.some)) (omega (arith, c.bits.ensures.is, c.bits.ensures.few)) all)
+    (made.0, made.1, lines_sound c.args.ring c.args.bytes.now made.0 (omega (arith, c.recall.ensures.some)) (omega (arith, c.recall.ensures.few)) all)
 
 pub returns : goal.returns
 returns c =

@@ -1,7 +1,7 @@
 use Rattle.std.proofs.Common.{◌≡◌, ◌*◌, ◌≤◌}
 use Rattle.list_laws.specs.Lists.{total}
-use Rattle.job_plan.specs.Keeping.{carried_count}
-use Rattle.job_plan.specs.Plans.{session}
+use Rattle.session_slots.specs.Carries.{carried_count}
+use Rattle.plan_model.specs.Plans.{session}
 use Rattle.job_plan.proofs.counts.all_carried.Given as goal
 
 abbrev pub invariant-loop-s : goal.invariant-loop-s

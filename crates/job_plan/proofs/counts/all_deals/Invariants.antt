@@ -1,6 +1,6 @@
 use Rattle.std.proofs.Common.{◌≡◌, ◌*◌, ◌≤◌}
 use Rattle.list_laws.specs.Lists.{total}
-use Rattle.job_plan.specs.Numbers.{deals}
+use Rattle.plan_model.specs.Numbers.{deals}
 use Rattle.job_plan.proofs.counts.all_deals.Given as goal
 
 abbrev pub invariant-loop-s : goal.invariant-loop-s

@@ -1,7 +1,7 @@
 use Rattle.std.proofs.Common.{◌≡◌, ◌*◌, ◌≤◌}
 use Rattle.list_laws.specs.Lists.{total}
 use Rattle.session_slots.specs.Counts.{prepared_products}
-use Rattle.job_plan.specs.Plans.{session}
+use Rattle.plan_model.specs.Plans.{session}
 use Rattle.job_plan.proofs.counts.all_masks.Given as goal
 
 abbrev pub invariant-loop-s : goal.invariant-loop-s

@@ -1,7 +1,7 @@
 use Rattle.std.proofs.Common.{◌≡◌, ◌≤◌, if◌then◌else◌}
 use Rattle.list_laws.specs.Lists.{total}
 use Rattle.session_slots.specs.Sessions.{is_carried, source}
-use Rattle.job_plan.specs.Plans.{session}
+use Rattle.plan_model.specs.Plans.{session}
 use Rattle.job_plan.proofs.counts.carried_count.Given as goal
 
 abbrev pub invariant-loop-v : goal.invariant-loop-v

@@ -1,9 +1,9 @@
 use Rattle.std.proofs.Common.{◌≡◌, ◌+◌, Bool, if◌then◌else◌, ap, ap₂, sym, ◌∙◌}
 use Rattle.std.proofs.lemmas.Bool.{cond-true, cond-false}
 use Rattle.secret_sharing.specs.Schemes.{has_pair}
-use Rattle.job_plan.specs.Plans.{session, scheme}
+use Rattle.plan_model.specs.Plans.{session, scheme}
 use Rattle.session_slots.specs.Counts.{products, owned}
-use Rattle.job_plan.proofs.TallyLaws.{deals_is}
+use Rattle.plan_model.proofs.TallyLaws.{deals_is}
 use Rattle.job_plan.proofs.counts.deal_count.Goals as goal
 use Rattle.job_plan.proofs.counts.deal_count.Goals.{then-multiplies, else-multiplies}
 

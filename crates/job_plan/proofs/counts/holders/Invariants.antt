@@ -1,6 +1,6 @@
 use Rattle.std.proofs.Common.{◌≡◌, ℕ, ◌≤◌, length}
 use Rattle.list_laws.specs.Lists.{joined}
-use Rattle.job_plan.specs.Messages.{kept_message}
+use Rattle.plan_model.specs.Messages.{kept_message}
 use Rattle.job_plan.proofs.counts.holders.Given as goal
 
 abbrev pub invariant-loop-p : goal.invariant-loop-p

@@ -1,5 +1,5 @@
 use Rattle.std.proofs.Common.{◌*◌, ap₂, sym, ◌∙◌}
-use Rattle.job_plan.proofs.KeptSessions.{keeping_messages_are}
+use Rattle.plan_model.proofs.KeepingPlans.{keeping_messages_are}
 use Rattle.job_plan.proofs.counts.kept_message_count.Goals as goal
 
 pub returns-clause-is : goal.returns-clause-is

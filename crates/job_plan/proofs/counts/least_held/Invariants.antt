@@ -1,5 +1,5 @@
 use Rattle.std.proofs.Common.{◌≡◌, ◌≤◌}
-use Rattle.job_plan.specs.Plans.{least_held}
+use Rattle.plan_model.specs.Plans.{least_held}
 use Rattle.job_plan.proofs.counts.least_held.Given as goal
 
 abbrev pub invariant-loop-i : goal.invariant-loop-i

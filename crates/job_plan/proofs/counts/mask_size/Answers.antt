@@ -1,8 +1,8 @@
 use Rattle.std.proofs.Common.{◌≡◌, length, ap, ◌∙◌, arith}
 use Rattle.list_laws.specs.Lists.{joined}
-use Rattle.job_plan.specs.Plans.{holder_of}
-use Rattle.job_plan.specs.Messages.{deal_message}
-use Rattle.job_plan.proofs.TallyLaws.{count_step}
+use Rattle.plan_model.specs.Plans.{holder_of}
+use Rattle.plan_model.specs.Messages.{deal_message}
+use Rattle.plan_model.proofs.TallyLaws.{count_step}
 use Rattle.job_plan.proofs.counts.mask_size.Goals as goal
 
 pub loop-i-preserved : goal.loop-i-preserved

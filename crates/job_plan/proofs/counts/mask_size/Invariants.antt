@@ -1,7 +1,7 @@
 use Rattle.std.proofs.Common.{◌≡◌, ℕ, ◌*◌, ◌≤◌, length}
 use Rattle.list_laws.specs.Lists.{joined}
-use Rattle.job_plan.specs.Plans.{holder_of}
-use Rattle.job_plan.specs.Messages.{deal_message}
+use Rattle.plan_model.specs.Plans.{holder_of}
+use Rattle.plan_model.specs.Messages.{deal_message}
 use Rattle.job_plan.proofs.counts.mask_size.Given as goal
 
 abbrev pub invariant-loop-i : goal.invariant-loop-i

@@ -1,7 +1,7 @@
 use Rattle.std.proofs.Common.{◌≡◌, ◌+◌, ap, ap₂, sym, ◌∙◌, arith}
 use Rattle.list_laws.specs.Lists.{total}
-use Rattle.job_plan.specs.Tallies.{party_messages}
-use Rattle.job_plan.proofs.KeptSessions.{keeper_messages}
+use Rattle.plan_model.specs.Tallies.{party_messages}
+use Rattle.plan_model.proofs.KeepingPlans.{keeper_messages}
 use Rattle.job_plan.proofs.counts.message_count.Goals as goal
 
 pub returns : goal.returns

@@ -1,6 +1,6 @@
 use Rattle.std.proofs.Common.{◌≡◌, ◌*◌, ◌^◌, ◌≤◌}
 use Rattle.list_laws.specs.Lists.{total}
-use Rattle.job_plan.specs.Tallies.{party_messages}
+use Rattle.plan_model.specs.Tallies.{party_messages}
 use Rattle.job_plan.proofs.counts.message_count.Given as goal
 
 abbrev pub invariant-loop-p : goal.invariant-loop-p

@@ -1,6 +1,6 @@
 use Rattle.std.proofs.Common.{◌≡◌, ℕ, ◌≤◌, length}
 use Rattle.list_laws.specs.Lists.{joined}
-use Rattle.job_plan.proofs.TallyLaws.{open_message}
+use Rattle.plan_model.proofs.TallyLaws.{open_message}
 use Rattle.job_plan.proofs.counts.opening_size.Given as goal
 
 abbrev pub invariant-loop-i : goal.invariant-loop-i

@@ -1,7 +1,7 @@
 use Rattle.std.proofs.Common.{◌≡◌, length, ap, ◌∙◌, arith}
 use Rattle.std.specs.Int.{from_bool}
-use Rattle.job_plan.specs.Messages.{deal_message}
-use Rattle.job_plan.proofs.TallyLaws.{count_step, length_one, at_most_one}
+use Rattle.plan_model.specs.Messages.{deal_message}
+use Rattle.plan_model.proofs.TallyLaws.{count_step, length_one, at_most_one}
 use Rattle.job_plan.proofs.counts.receivers.Goals as goal
 
 pub loop-q-preserved : goal.loop-q-preserved

@@ -1,6 +1,6 @@
 use Rattle.std.proofs.Common.{◌≡◌, ◌+◌, ◌-◌, ◌*◌, length, ap, ap₂, sym, ◌∙◌, arith}
-use Rattle.job_plan.specs.Plans.{least_held}
-use Rattle.job_plan.proofs.TallyLaws.{words_are}
+use Rattle.plan_model.specs.Plans.{least_held}
+use Rattle.plan_model.proofs.TallyLaws.{words_are}
 use Rattle.job_plan.proofs.counts.session_words.Goals as goal
 
 pub returns-clause-is : goal.returns-clause-is

@@ -1,6 +1,6 @@
 use Rattle.std.proofs.Common.{◌≡◌, ◌*◌, ◌≤◌}
 use Rattle.list_laws.specs.Lists.{total}
-use Rattle.job_plan.specs.Plans.{words}
+use Rattle.plan_model.specs.Plans.{words}
 use Rattle.job_plan.proofs.counts.word_count.Given as goal
 
 abbrev pub invariant-loop-s : goal.invariant-loop-s

@@ -1,10 +1,10 @@
 use Rattle.std.proofs.Common.{◌≡◌, length, ap, ap₂, sym, ◌∙◌, arith}
 use Rattle.std.specs.Prelude.{slice_index}
 use Rattle.session_slots.specs.Sessions.{session_slots}
-use Rattle.job_plan.specs.Plans.{slots}
-use Rattle.job_plan.specs.Firsts.{session_starts}
-use Rattle.job_plan.proofs.SlotStarts.{first_after, start_at, starts_long}
-use Rattle.job_plan.proofs.GrownLists.{listed_push}
+use Rattle.plan_model.specs.Plans.{slots}
+use Rattle.plan_model.specs.Firsts.{session_starts}
+use Rattle.plan_model.proofs.SlotStarts.{first_after, start_at, starts_long}
+use Rattle.plan_model.proofs.GrownLists.{listed_push}
 use Rattle.job_plan.proofs.lists.list_starts.Goals as goal
 
 pub at-before-requires : goal.at-before-requires

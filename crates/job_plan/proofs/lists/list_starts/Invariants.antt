@@ -1,6 +1,6 @@
 use Rattle.std.proofs.Common.{◌≡◌}
 use Rattle.list_laws.specs.Lists.{listed}
-use Rattle.job_plan.specs.Firsts.{first, session_starts}
+use Rattle.plan_model.specs.Firsts.{first, session_starts}
 use Rattle.job_plan.proofs.lists.list_starts.Given as goal
 
 abbrev pub invariant-loop-s : goal.invariant-loop-s

@@ -1,10 +1,10 @@
 use Rattle.std.proofs.Common.{◌≡◌, ◌+◌, length, ap, ◌∙◌, arith}
 use Rattle.session_slots.specs.Sessions.{session_slots}
-use Rattle.job_plan.specs.Patterns.{transfers}
-use Rattle.job_plan.specs.Firsts.{first, count}
-use Rattle.job_plan.proofs.SlotMessages.{first_within}
-use Rattle.job_plan.proofs.SlotStarts.{pattern_count, first_next}
-use Rattle.job_plan.proofs.GrownLists.{listed_push}
+use Rattle.plan_model.specs.Patterns.{transfers}
+use Rattle.plan_model.specs.Firsts.{first, count}
+use Rattle.plan_model.proofs.SlotMessages.{first_within}
+use Rattle.plan_model.proofs.SlotStarts.{pattern_count, first_next}
+use Rattle.plan_model.proofs.GrownLists.{listed_push}
 use Rattle.job_plan.proofs.lists.list_starts_of.Goals as goal
 
 pub overflow_cast-next : goal.overflow_cast-next

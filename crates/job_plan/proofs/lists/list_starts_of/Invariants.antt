@@ -1,6 +1,6 @@
 use Rattle.std.proofs.Common.{◌≡◌}
 use Rattle.list_laws.specs.Lists.{listed}
-use Rattle.job_plan.specs.Firsts.{first}
+use Rattle.plan_model.specs.Firsts.{first}
 use Rattle.job_plan.proofs.lists.list_starts_of.Given as goal
 
 abbrev pub invariant-loop-k : goal.invariant-loop-k

@@ -1,7 +1,7 @@
 use Rattle.std.proofs.Common.{◌≡◌, ℕ, ◌+◌, length, ap, ◌∙◌, arith}
 use Rattle.list_laws.specs.Lists.{total, listed}
-use Rattle.job_plan.specs.Plans.{words}
-use Rattle.job_plan.proofs.GrownLists.{listed_push}
+use Rattle.plan_model.specs.Plans.{words}
+use Rattle.plan_model.proofs.GrownLists.{listed_push}
 use Rattle.job_plan.proofs.lists.list_words_of.Goals as goal
 
 pub returns : goal.returns

@@ -1,7 +1,7 @@
 use Rattle.std.proofs.Common.{◌≡◌}
 use Rattle.list_laws.specs.Lists.{joined}
-use Rattle.job_plan.specs.Plans.{holder_of}
-use Rattle.job_plan.specs.Patterns.{deal_transfer}
+use Rattle.plan_model.specs.Plans.{holder_of}
+use Rattle.plan_model.specs.Patterns.{deal_transfer}
 use Rattle.job_plan.proofs.pattern_transfers.handed_out_transfers.Given as goal
 
 abbrev pub invariant-loop-share : goal.invariant-loop-share

@@ -1,8 +1,8 @@
 use Rattle.std.proofs.Common.{◌≡◌}
 use Rattle.list_laws.specs.Lists.{joined, only_if}
 use Rattle.secret_sharing.specs.Schemes.{has_pair}
-use Rattle.job_plan.specs.Plans.{scheme}
-use Rattle.job_plan.specs.Patterns.{deal_transfers}
+use Rattle.plan_model.specs.Plans.{scheme}
+use Rattle.plan_model.specs.Patterns.{deal_transfers}
 use Rattle.job_plan.proofs.pattern_transfers.multiplied_transfers.Given as goal
 
 abbrev pub invariant-loop-p : goal.invariant-loop-p

@@ -1,7 +1,7 @@
 use Rattle.std.proofs.Common.{◌≡◌}
 use Rattle.list_laws.specs.Lists.{joined, only_if}
 use Rattle.party_set.specs.Parties.{has_party}
-use Rattle.job_plan.specs.Patterns.{open_transfers}
+use Rattle.plan_model.specs.Patterns.{open_transfers}
 use Rattle.job_plan.proofs.pattern_transfers.opened_transfers.Given as goal
 
 abbrev pub invariant-loop-r : goal.invariant-loop-r

@@ -1,6 +1,6 @@
 use Rattle.std.proofs.Common.{◌≡◌, ◌++◌}
 use Rattle.list_laws.specs.Lists.{joined}
-use Rattle.job_plan.specs.Patterns.{deal_transfer}
+use Rattle.plan_model.specs.Patterns.{deal_transfer}
 use Rattle.job_plan.proofs.pattern_transfers.push_deal.Given as goal
 
 abbrev pub invariant-loop-share : goal.invariant-loop-share

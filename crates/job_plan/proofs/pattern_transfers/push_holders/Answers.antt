@@ -1,8 +1,8 @@
 use Rattle.std.proofs.Common.{[], ◌∷◌, ap, ◌∙◌}
 use Rattle.list_laws.specs.Lists.{only_if}
 use Rattle.list_laws.proofs.JoinedLists.{joined_step}
-use Rattle.job_plan.specs.declared.pattern.Transfer.{Transfer}
-use Rattle.job_plan.specs.Patterns.{held_transfer}
+use Rattle.plan_model.specs.declared.pattern.Transfer.{Transfer}
+use Rattle.plan_model.specs.Patterns.{held_transfer}
 use Rattle.job_plan.proofs.pattern_transfers.push_holders.Goals as goal
 
 pub loop-p-preserved : goal.loop-p-preserved

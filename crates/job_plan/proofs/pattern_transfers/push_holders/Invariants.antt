@@ -1,6 +1,6 @@
 use Rattle.std.proofs.Common.{◌≡◌, ◌++◌}
 use Rattle.list_laws.specs.Lists.{joined}
-use Rattle.job_plan.specs.Patterns.{held_transfer}
+use Rattle.plan_model.specs.Patterns.{held_transfer}
 use Rattle.job_plan.proofs.pattern_transfers.push_holders.Given as goal
 
 abbrev pub invariant-loop-p : goal.invariant-loop-p

@@ -1,6 +1,6 @@
 use Rattle.std.proofs.Common.{◌≡◌, ◌++◌}
 use Rattle.list_laws.specs.Lists.{joined}
-use Rattle.job_plan.proofs.SlotPatterns.{open_transfer}
+use Rattle.plan_model.proofs.SlotPatterns.{open_transfer}
 use Rattle.job_plan.proofs.pattern_transfers.push_opening.Given as goal
 
 abbrev pub invariant-loop-share : goal.invariant-loop-share

@@ -1,6 +1,6 @@
 use Rattle.std.proofs.Common.{◌≡◌, map, take}
-use Rattle.job_plan.specs.declared.pattern.Pattern.TheVariants.{Opened}
-use Rattle.job_plan.specs.Patterns.{transfers}
+use Rattle.plan_model.specs.declared.pattern.Pattern.TheVariants.{Opened}
+use Rattle.plan_model.specs.Patterns.{transfers}
 use Rattle.job_plan.proofs.patterns.openings_to_each.Given as goal
 
 abbrev pub invariant-loop-mask : goal.invariant-loop-mask

@@ -2,7 +2,7 @@ use Rattle.std.proofs.Common.{ℕ, below_more, sym, subst, arith}
 use Rattle.std.specs.List.{Contains}
 use Rattle.std.proofs.lemmas.List.Elements.{Contains-append_left, Contains-append_right, Contains-get_or}
 use Rattle.session_slots.specs.Sessions.{readers}
-use Rattle.job_plan.specs.Plans.{session}
+use Rattle.plan_model.specs.Plans.{session}
 use Rattle.job_plan.proofs.patterns.readers_of_all.Goals as goal
 
 pub loop-s-preserved : goal.loop-s-preserved

@@ -1,5 +1,5 @@
 use Rattle.std.proofs.Common.{◌≡◌, ℕ, ◌<◌, ◌≤◌, sym, ◌∙◌, subst, below_more, arith}
-use Rattle.job_plan.proofs.KeptSessions.{tape_length_same}
+use Rattle.plan_model.proofs.KeepingPlans.{tape_length_same}
 use Rattle.job_plan.proofs.plan.check_words.Goals as goal
 
 reaches : (p end parties at : ℕ) → p < parties → end ≡ parties → end ≤ at → p < at

@@ -1,6 +1,6 @@
 use Rattle.std.proofs.Common.{ℕ, ◌<◌, ◌≤◌}
-use Rattle.job_plan.specs.Keeping.{keeping_plan}
-use Rattle.job_plan.specs.Tallies.{tape_length}
+use Rattle.plan_model.specs.Plans.{keeping_plan}
+use Rattle.plan_model.specs.Tallies.{tape_length}
 use Rattle.job_plan.proofs.plan.check_words.Given as goal
 
 abbrev pub invariant-loop-party : goal.invariant-loop-party

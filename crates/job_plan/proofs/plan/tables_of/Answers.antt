@@ -1,7 +1,7 @@
-use Rattle.job_plan.specs.Plans.{Plan, KeepsCarried}
-use Rattle.job_plan.specs.Sound.{IsOutline, IsSound}
+use Rattle.plan_model.specs.Plans.{Plan, KeepsCarried}
+use Rattle.plan_model.specs.Sound.{IsOutline, IsSound}
 use Rattle.job_plan.specs.Limits.{IsPlanWithin}
-use Rattle.job_plan.proofs.KeptSessions.{carries_earlier}
+use Rattle.session_slots.proofs.KeptSessions.{carries_earlier}
 use Rattle.job_plan.proofs.plan.tables_of.Goals as goal
 
 sound_within : (plan : Plan) → IsOutline plan → KeepsCarried plan → IsPlanWithin plan → IsSound plan

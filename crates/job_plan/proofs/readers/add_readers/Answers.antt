@@ -4,7 +4,7 @@ use Rattle.std.proofs.lemmas.List.{take_all, take_more}
 use Rattle.mask_list.specs.Masks.{AreMasksOf}
 use Rattle.mask_list.proofs.AddedMasks.{one_more}
 use Rattle.session_slots.specs.Sessions.{Session, readers}
-use Rattle.job_plan.specs.Plans.{session}
+use Rattle.plan_model.specs.Plans.{session}
 use Rattle.job_plan.proofs.readers.add_readers.Goals as goal
 
 pub loop-o-preserved : goal.loop-o-preserved

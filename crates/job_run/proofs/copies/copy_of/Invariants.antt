@@ -1,5 +1,5 @@
 use Rattle.std.proofs.Common.{◌≡◌, take}
-use Rattle.job_plan.specs.InputWords.{session_words}
+use Rattle.plan_model.specs.InputWords.{session_words}
 use Rattle.job_run.proofs.copies.copy_of.Given as goal
 
 -- the sessions so far

@@ -1,5 +1,5 @@
 use Rattle.std.proofs.Common.{sym, ◌∙◌, subst}
-use Rattle.job_plan.specs.InputWords.{AreInputs, input_words}
+use Rattle.plan_model.specs.InputWords.{AreInputs, input_words}
 use Rattle.job_run.proofs.Worlds.{are_inputs}
 use Rattle.job_run.proofs.PartyCopies.{inputs_end}
 use Rattle.job_run.proofs.copies.inputs_of.Goals as goal

@@ -1,5 +1,5 @@
 use Rattle.std.proofs.Common.{◌≡◌, map, take}
-use Rattle.job_plan.specs.InputWords.{input_words, session_words}
+use Rattle.plan_model.specs.InputWords.{input_words, session_words}
 use Rattle.party_file.specs.declared.data.PartyData.{PartyData}
 use Rattle.job_run.proofs.copies.inputs_of.Given as goal
 

@@ -1,4 +1,4 @@
-use Rattle.job_plan.specs.InputWords.{session_words}
+use Rattle.plan_model.specs.InputWords.{session_words}
 use Rattle.job_run.proofs.PartyCopies.{tapes_end}
 use Rattle.job_run.proofs.copies.tapes_of.Goals as goal
 

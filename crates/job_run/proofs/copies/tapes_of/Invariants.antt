@@ -1,6 +1,6 @@
 use Rattle.std.proofs.Common.{◌≡◌, map, take}
 use Rattle.std.specs.List.{concat}
-use Rattle.job_plan.specs.InputWords.{session_words}
+use Rattle.plan_model.specs.InputWords.{session_words}
 use Rattle.party_file.specs.declared.data.PartyData.{PartyData}
 use Rattle.job_run.proofs.copies.tapes_of.Given as goal
 

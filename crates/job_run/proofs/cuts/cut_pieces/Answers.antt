@@ -3,8 +3,8 @@ use Rattle.std.specs.Prelude.{slice_index}
 use Rattle.std.specs.Global.{Vec}
 use Rattle.std.proofs.lemmas.List.{length-map}
 use Rattle.list_laws.specs.Lists.{joined}
-use Rattle.job_plan.specs.Plans.{words, place}
-use Rattle.job_plan.specs.InputWords.{session_words}
+use Rattle.plan_model.specs.Plans.{words, place}
+use Rattle.plan_model.specs.InputWords.{session_words}
 use Rattle.wire_tables.proofs.ListedRows.{row_read}
 use Rattle.tape_map.proofs.ChangedPieces.{small_all}
 use Rattle.desk_laws.specs.Pieces.{ArePieces}

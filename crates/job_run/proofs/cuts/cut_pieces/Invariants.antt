@@ -1,6 +1,6 @@
 use Rattle.std.proofs.Common.{◌≡◌, ◌++◌}
 use Rattle.list_laws.specs.Lists.{joined, listed}
-use Rattle.job_plan.specs.InputWords.{session_words}
+use Rattle.plan_model.specs.InputWords.{session_words}
 use Rattle.job_run.proofs.CutTapes.{cut_piece, cut_row}
 use Rattle.job_run.proofs.cuts.cut_pieces.Given as goal
 

@@ -1,6 +1,6 @@
 use Rattle.std.proofs.Common.{◌≡◌, ◌+◌, ◌-◌, length, take, drop, ap₂, ◌∙◌, arith}
 use Rattle.list_laws.proofs.JoinedLists.{total_within}
-use Rattle.job_plan.specs.Plans.{place, words}
+use Rattle.plan_model.specs.Plans.{place, words}
 use Rattle.job_run.proofs.cuts.piece_of.Goals as goal
 
 pub slice_bounds-from_slice-end : goal.slice_bounds-from_slice-end

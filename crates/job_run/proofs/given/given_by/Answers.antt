@@ -1,7 +1,7 @@
 use Rattle.std.proofs.Common.{◌≡◌, ◌++◌, [], List, ℕ, map, sym, ap, ap₂, ◌∙◌, arith}
 use Rattle.std.specs.Global.{Vec}
 use Rattle.std.proofs.lemmas.List.{append-nil, map_push, nil_from_length}
-use Rattle.job_plan.specs.InputWords.{input_words, session_words}
+use Rattle.plan_model.specs.InputWords.{input_words, session_words}
 use Rattle.party_file.specs.Table.{PartyForm}
 use Rattle.party_file.specs.Forms.{form_of}
 use Rattle.party_file.specs.declared.data.PartyData.{PartyData}

@@ -1,5 +1,5 @@
 use Rattle.std.proofs.Common.{◌≡◌, ◌++◌, map}
-use Rattle.job_plan.specs.InputWords.{input_words}
+use Rattle.plan_model.specs.InputWords.{input_words}
 use Rattle.party_file.specs.Table.{PartyForm}
 use Rattle.party_file.specs.Forms.{form_of}
 use Rattle.job_run.specs.Pieces.{tape_words}

@@ -1,6 +1,6 @@
 use Rattle.std.proofs.Common.{◌≡◌, ap₂, sym, subst, ◌∙◌, length, List, ℕ, All}
 use Rattle.std.specs.Prelude.{IfOk}
-use Rattle.job_plan.specs.InputWords.{AreInputs}
+use Rattle.plan_model.specs.InputWords.{AreInputs}
 use Rattle.desk_laws.specs.Pieces.{ArePieces, world_of_pieces}
 use Rattle.desk_workers.specs.Runs.{IsReady}
 use Rattle.job_run.specs.Pieces.{pieces_in, tape_words}

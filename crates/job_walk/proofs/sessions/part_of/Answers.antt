@@ -3,7 +3,8 @@ use Rattle.party_set.specs.Parties.{Members}
 use Rattle.job_file.specs.declared.owner.JobOwner.{JobOwner}
 use Rattle.job_file.specs.Owners.{IsOwner}
 use Rattle.session_slots.specs.declared.values.Owner.{Owner}
-use Rattle.job_session.specs.Parts.{AreEarlier, AreOf, CarriesFit}
+use Rattle.job_session.specs.Parts.{AreEarlier, AreOf}
+use Rattle.session_slots.specs.Carries.{CarriesFit}
 use Rattle.job_walk.specs.JobOf.{owner_of}
 use Rattle.job_walk.proofs.CarriedValues.{owners_among, owners_earlier}
 use Rattle.job_walk.proofs.sessions.part_of.Goals as goal

@@ -5,8 +5,7 @@ use Rattle.std.proofs.lemmas.List.{take_all}
 use Rattle.std.proofs.lemmas.List.Elements.{All-nil, All-push, All-same}
 use Rattle.session_slots.specs.SoundSessions.{IsSoundSession}
 use Rattle.session_slots.specs.Sessions.{Session}
-use Rattle.job_session.specs.Parts.{CarriesFit}
-use Rattle.job_plan.specs.Keeping.{AllFit}
+use Rattle.session_slots.specs.Carries.{CarriesFit, AllFit}
 use Rattle.job_file.specs.declared.job.JobSession.{JobSession}
 use Rattle.job_file.specs.Jobs.{job_view, session_view, IsSession}
 use Rattle.job_walk.specs.JobOf.{SessionsAfter}

@@ -3,7 +3,7 @@ use Rattle.std.specs.declared.alloc.Global.{Global}
 use Rattle.outer_io.specs.Files.{FilesReading}
 use Rattle.session_slots.specs.Sessions.{Session}
 use Rattle.session_slots.specs.SoundSessions.{IsSoundSession}
-use Rattle.job_plan.specs.Keeping.{AllFit}
+use Rattle.session_slots.specs.Carries.{AllFit}
 use Rattle.job_file.specs.Jobs.{job_view, session_view}
 use Rattle.job_walk.specs.declared.stop.Stop.{Stop}
 use Rattle.job_walk.specs.JobOf.{SessionsAfter}

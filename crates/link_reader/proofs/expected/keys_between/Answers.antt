@@ -1,7 +1,7 @@
 use Rattle.std.proofs.Common.{◌≡◌, ◌++◌, filter, ap, ◌∙◌, arith}
 use Rattle.list_laws.specs.Lists.{joined}
-use Rattle.job_plan.specs.Plans.{slot, slots}
-use Rattle.job_plan.specs.Messages.{session_messages, slot_messages}
+use Rattle.plan_model.specs.Plans.{slot, slots}
+use Rattle.plan_model.specs.Messages.{session_messages, slot_messages}
 use Rattle.node_talk.specs.Talks.{goes}
 use Rattle.link_reader.proofs.ExpectedMessages.{filter_behind, filter_more}
 use Rattle.link_reader.proofs.expected.keys_between.Goals as goal

@@ -1,8 +1,8 @@
 use Rattle.std.proofs.Common.{◌≡◌, ◌++◌}
 use Rattle.std.specs.Prelude.{filter}
 use Rattle.list_laws.specs.Lists.{joined}
-use Rattle.job_plan.specs.Plans.{slot}
-use Rattle.job_plan.specs.Messages.{session_messages, slot_messages}
+use Rattle.plan_model.specs.Plans.{slot}
+use Rattle.plan_model.specs.Messages.{session_messages, slot_messages}
 use Rattle.node_talk.specs.Talks.{goes}
 use Rattle.link_reader.proofs.expected.keys_between.Given as goal
 

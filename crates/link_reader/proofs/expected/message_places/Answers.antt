@@ -1,9 +1,9 @@
 use Rattle.std.proofs.Common.{◌≡◌, ◌+◌, length, sym, ap, subst, ◌∙◌, arith}
-use Rattle.job_plan.specs.Plans.{slots}
-use Rattle.job_plan.specs.Firsts.{first}
-use Rattle.job_plan.specs.Messages.{messages}
-use Rattle.job_plan.proofs.SlotMessages.{length-messages}
-use Rattle.job_plan.proofs.SlotStarts.{first_after}
+use Rattle.plan_model.specs.Plans.{slots}
+use Rattle.plan_model.specs.Firsts.{first}
+use Rattle.plan_model.specs.Messages.{messages}
+use Rattle.plan_model.proofs.SlotMessages.{length-messages}
+use Rattle.plan_model.proofs.SlotStarts.{first_after}
 use Rattle.link_reader.specs.Expected.{ArePlaced}
 use Rattle.link_reader.proofs.ExpectedMessages.{has_places}
 use Rattle.link_reader.proofs.expected.message_places.Goals as goal

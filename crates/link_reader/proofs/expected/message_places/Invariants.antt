@@ -1,4 +1,4 @@
-use Rattle.job_plan.specs.Firsts.{first}
+use Rattle.plan_model.specs.Firsts.{first}
 use Rattle.link_reader.specs.Expected.{ArePlaced}
 use Rattle.link_reader.proofs.expected.message_places.Given as goal
 

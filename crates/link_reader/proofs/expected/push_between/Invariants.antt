@@ -1,6 +1,6 @@
 use Rattle.std.proofs.Common.{◌≡◌, ◌++◌, map, take}
 use Rattle.std.specs.Prelude.{filter}
-use Rattle.job_plan.specs.Patterns.{named}
+use Rattle.plan_model.specs.Patterns.{named}
 use Rattle.node_talk.specs.Talks.{goes}
 use Rattle.link_reader.proofs.expected.push_between.Given as goal
 

@@ -1,12 +1,13 @@
 use Rattle.std.proofs.Common.{◌≡◌, ◌<◌, ◌≤◌, ◌+◌, ℕ, length, refl, sym, ap, subst, ◌∙◌, arith, length-append}
 use Rattle.std.proofs.lemmas.List.{length-set}
 use Rattle.std.specs.Prelude.{slice_index}
-use Rattle.job_plan.specs.Firsts.{first}
-use Rattle.job_plan.specs.Numbers.{message}
-use Rattle.job_plan.specs.Patterns.{transfers}
-use Rattle.job_plan.proofs.SlotStarts.{first_next}
+use Rattle.plan_model.specs.Firsts.{first}
+use Rattle.plan_model.specs.Numbers.{message}
+use Rattle.plan_model.specs.Patterns.{transfers}
+use Rattle.plan_model.proofs.SlotStarts.{first_next}
 use Rattle.link_reader.specs.Expected.{ArePlaced, sent_before}
-use Rattle.link_reader.proofs.ExpectedMessages.{place_in, count_is, count_more, count_same, few_before, place_more, transfer_is}
+use Rattle.link_reader.proofs.ExpectedMessages.{place_in, count_more, count_same, few_before, place_more, transfer_is}
+use Rattle.plan_model.proofs.NamedTransfers.{count_is}
 use Rattle.link_reader.proofs.expected.push_places.Goals as goal
 use Rattle.link_reader.proofs.expected.push_places.Goals.{then-key-me, else-key-me}
 

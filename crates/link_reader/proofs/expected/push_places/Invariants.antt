@@ -1,5 +1,5 @@
 use Rattle.std.proofs.Common.{◌+◌}
-use Rattle.job_plan.specs.Firsts.{first}
+use Rattle.plan_model.specs.Firsts.{first}
 use Rattle.link_reader.specs.Expected.{ArePlaced}
 use Rattle.link_reader.proofs.expected.push_places.Given as goal
 

@@ -7,11 +7,10 @@ use Rattle.outer_io.specs.declared.sink.Failed.{Failed}
 use Rattle.party_set.specs.Parties.{Members}
 use Rattle.party_file.specs.Forms.{form_of}
 use Rattle.party_file.specs.declared.data.PartyData.{PartyData}
-use Rattle.job_plan.specs.Plans.{Plan}
-use Rattle.job_run.specs.Parties.{AllFit}
-use Rattle.job_plan.specs.InputWords.{session_words}
+use Rattle.plan_model.specs.Plans.{Plan}
+use Rattle.job_run.specs.Parties.{AllFit, world_of}
+use Rattle.plan_model.specs.InputWords.{session_words}
 use Rattle.share_world.specs.Worlds.{World}
-use Rattle.job_run.specs.Parties.{world_of}
 use Rattle.tape_map.specs.TapeMaps.{second_world}
 use Rattle.tape_map.specs.Laws.{CanHide}
 use Rattle.command_words.specs.Commands.{pair}

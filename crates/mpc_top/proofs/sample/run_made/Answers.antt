@@ -2,7 +2,7 @@ use Rattle.std.proofs.Common.{◌≡◌, ℕ, ◌<◌, List, Result, Some, refl,
 use Rattle.outer_io.specs.Files.{Told}
 use Rattle.outer_io.specs.Sink.{SinkReading, Writes}
 use Rattle.outer_io.specs.declared.sink.Failed.{Failed}
-use Rattle.job_plan.specs.Plans.{Plan}
+use Rattle.plan_model.specs.Plans.{Plan}
 use Rattle.share_world.specs.Worlds.{World}
 use Rattle.desk_laws.specs.Pieces.{world_of_pieces}
 use Rattle.command_words.specs.Commands.{sample}

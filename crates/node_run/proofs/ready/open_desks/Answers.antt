@@ -2,7 +2,7 @@ use Rattle.std.proofs.Common.{◌≡◌, ◌+◌, ◌<◌, ◌^◌, ℕ, [], ◌
 use Rattle.std.specs.Global.{Vec}
 use Rattle.std.specs.Prelude.{slice_index, slice_index_or}
 use Rattle.std.proofs.lemmas.List.{drop_more, get_or_default, length-drop, length-map}
-use Rattle.job_plan.specs.InputWords.{session_words}
+use Rattle.plan_model.specs.InputWords.{session_words}
 use Rattle.party_desk.specs.Desks.{IsNew}
 use Rattle.node_run.specs.Ready.{given_words}
 use Rattle.node_run.proofs.CellChanges.{read_here}

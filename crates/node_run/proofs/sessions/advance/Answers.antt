@@ -1,6 +1,6 @@
 use Rattle.std.proofs.Common.{ap, sym, ◌∙◌, subst}
 use Rattle.party_desk.specs.Steps.{MayStep}
-use Rattle.party_program.specs.States.{Given}
+use Rattle.program_model.specs.States.{Given}
 use Rattle.node_run.specs.Mail.{Mail}
 use Rattle.node_run.proofs.KnownWords.{is_there, is_missing}
 use Rattle.node_run.proofs.SessionSteps.{node_cells, are_node_cells, some_given, moved, waited, at_end}

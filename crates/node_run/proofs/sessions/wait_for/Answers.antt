@@ -1,5 +1,5 @@
 use Rattle.std.proofs.Common.{◌≡◌, true, ap, sym, ◌∙◌, subst, inr, Some}
-use Rattle.job_plan.specs.Numbers.{message}
+use Rattle.plan_model.specs.Numbers.{message}
 use Rattle.node_run.specs.Mail.{Mail, Looked, LookedAtMark, box_of}
 use Rattle.node_run.proofs.CellChanges.{peer_kept, never_comes, fault_noted}
 use Rattle.node_run.proofs.KnownWords.{is_missing}

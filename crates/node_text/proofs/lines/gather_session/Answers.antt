@@ -2,7 +2,7 @@ use Rattle.std.proofs.Common.{◌+◌, length, refl, ap, ap₂, sym, ◌∙◌, 
 use Rattle.list_laws.proofs.Totals.{total_more}
 use Rattle.session_slots.specs.declared.values.OutputValue.{OutputValue}
 use Rattle.session_slots.specs.Sessions.{Session}
-use Rattle.job_plan.specs.Plans.{session}
+use Rattle.plan_model.specs.Plans.{session}
 use Rattle.view_text.specs.OutLines.{output_value}
 use Rattle.outer_io.proofs.GatheredTexts.{adds_nothing}
 use Rattle.text_parts.proofs.GatheredTexts.{adds_more}

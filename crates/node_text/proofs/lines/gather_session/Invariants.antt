@@ -1,7 +1,7 @@
 use Rattle.std.proofs.Common.{◌≡◌}
 use Rattle.list_laws.specs.Lists.{joined}
 use Rattle.outer_io.specs.Blocks.{Adds}
-use Rattle.job_plan.specs.Plans.{session}
+use Rattle.plan_model.specs.Plans.{session}
 use Rattle.view_text.specs.OutLines.{wires_before}
 use Rattle.node_text.specs.NodeText.{value_line}
 use Rattle.node_text.proofs.lines.gather_session.Given as goal

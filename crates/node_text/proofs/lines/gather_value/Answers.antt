@@ -4,7 +4,7 @@ use Rattle.outer_io.proofs.GatheredTexts.{adds_nothing, adds_then}
 use Rattle.text_parts.proofs.GatheredTexts.{adds_same}
 use Rattle.party_set.specs.Parties.{has_party}
 use Rattle.session_slots.specs.declared.values.OutputValue.{OutputValue}
-use Rattle.job_plan.specs.Plans.{session}
+use Rattle.plan_model.specs.Plans.{session}
 use Rattle.view_text.specs.OutLines.{out_line, output_value}
 use Rattle.view_text.proofs.OutputWires.{few_wires}
 use Rattle.node_text.specs.NodeText.{output_words}

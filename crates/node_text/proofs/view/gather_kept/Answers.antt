@@ -2,7 +2,7 @@ use Rattle.std.proofs.Common.{◌≡◌, ℕ, length, refl, sym, ap, ◌∙◌, 
 use Rattle.list_laws.specs.Lists.{joined}
 use Rattle.outer_io.proofs.GatheredTexts.{adds_nothing}
 use Rattle.text_parts.proofs.GatheredTexts.{adds_same, adds_more}
-use Rattle.job_plan.specs.Messages.{messages}
+use Rattle.plan_model.specs.Messages.{messages}
 use Rattle.view_text.specs.ViewText.{message_lines}
 use Rattle.node_text.specs.NodeText.{kept_message}
 use Rattle.node_text.proofs.KeptLines.{lines-joined}

@@ -3,8 +3,8 @@ use Rattle.std.specs.Option.{unwrap_or}
 use Rattle.std.proofs.lemmas.Bool.{cond-true, cond-false}
 use Rattle.outer_io.proofs.GatheredTexts.{adds_nothing}
 use Rattle.text_parts.proofs.GatheredTexts.{adds_same}
-use Rattle.job_plan.specs.declared.key.Key.{Key}
-use Rattle.job_plan.specs.Numbers.{message}
+use Rattle.plan_model.specs.declared.key.Key.{Key}
+use Rattle.plan_model.specs.Numbers.{message}
 use Rattle.share_world.specs.Worlds.{touches}
 use Rattle.link_reader.proofs.ExpectedMessages.{between_parties}
 use Rattle.view_text.specs.ViewText.{message_line, message_lines}

@@ -3,7 +3,7 @@ use Rattle.list_laws.specs.Lists.{joined}
 use Rattle.outer_io.specs.Blocks.{Adds}
 use Rattle.outer_io.proofs.GatheredTexts.{adds_then}
 use Rattle.party_set.specs.Parties.{Members}
-use Rattle.job_plan.specs.Messages.{messages}
+use Rattle.plan_model.specs.Messages.{messages}
 use Rattle.view_text.specs.ViewText.{view_head, view_text, message_lines}
 use Rattle.node_text.specs.NodeText.{kept_message}
 use Rattle.node_text.proofs.view.gather_view.Goals as goal

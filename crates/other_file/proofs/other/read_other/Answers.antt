@@ -1,7 +1,7 @@
 use Rattle.std.proofs.Common.{◌≡◌, Err, sym, ap, subst, ◌∙◌, inl, inr}
 use Rattle.std.specs.Option.{option_map}
 use Rattle.toml.specs.View.{table_view}
-use Rattle.job_plan.specs.InputWords.{AreInputs}
+use Rattle.plan_model.specs.InputWords.{AreInputs}
 use Rattle.other_file.specs.Table.{other_in}
 use Rattle.other_file.specs.declared.fault.OtherFault.TheVariants.{Memory}
 use Rattle.list_laws.proofs.FirstFaults.{stops_with}

@@ -5,7 +5,7 @@ use Rattle.toml.specs.View.{table_view}
 use Rattle.list_laws.specs.Lists.{listed}
 use Rattle.list_laws.specs.Checks.{first_fault}
 use Rattle.list_laws.proofs.JoinedLists.{joined_more}
-use Rattle.job_plan.specs.InputWords.{session_words, input_words}
+use Rattle.plan_model.specs.InputWords.{session_words, input_words}
 use Rattle.other_file.specs.Table.{party_fault, party_inputs}
 use Rattle.other_file.specs.declared.fault.OtherFault.TheVariants.{Memory}
 use Rattle.list_laws.proofs.FirstFaults.{listed_more-passed, listed-stops, stops_by}

@@ -2,7 +2,7 @@ use Rattle.std.proofs.Common.{◌≡◌, None}
 use Rattle.toml.specs.View.{table_view}
 use Rattle.list_laws.specs.Lists.{listed}
 use Rattle.list_laws.specs.Checks.{first_fault}
-use Rattle.job_plan.specs.InputWords.{input_words}
+use Rattle.plan_model.specs.InputWords.{input_words}
 use Rattle.other_file.specs.Table.{party_fault, party_inputs}
 use Rattle.other_file.proofs.parties.read_parties.Given as goal
 

@@ -6,7 +6,7 @@ use Rattle.std.proofs.lemmas.List.{get_or-map}
 use Rattle.outer_io.proofs.GatheredTexts.{adds_then}
 use Rattle.text_parts.specs.Parts.{words_text}
 use Rattle.text_parts.proofs.GatheredTexts.{adds_same}
-use Rattle.job_plan.specs.InputWords.{session_words}
+use Rattle.plan_model.specs.InputWords.{session_words}
 use Rattle.output_text.proofs.pair.gather_tape.Goals as goal
 
 -- the words of tape p

@@ -1,7 +1,7 @@
 use Rattle.std.proofs.Common.{refl}
 use Rattle.outer_io.proofs.GatheredTexts.{adds_nothing}
 use Rattle.text_parts.proofs.GatheredTexts.{adds_more}
-use Rattle.job_plan.specs.InputWords.{session_words}
+use Rattle.plan_model.specs.InputWords.{session_words}
 use Rattle.output_text.specs.PairText.{tape_line}
 use Rattle.output_text.proofs.pair.gather_tapes.Goals as goal
 

@@ -1,6 +1,6 @@
 use Rattle.list_laws.specs.Lists.{joined}
 use Rattle.outer_io.specs.Blocks.{Adds}
-use Rattle.job_plan.specs.InputWords.{session_words}
+use Rattle.plan_model.specs.InputWords.{session_words}
 use Rattle.output_text.specs.PairText.{tape_line}
 use Rattle.output_text.proofs.pair.gather_tapes.Given as goal
 

@@ -4,8 +4,8 @@ use Rattle.list_laws.specs.Lists.{joined}
 use Rattle.outer_io.proofs.GatheredTexts.{adds_then}
 use Rattle.text_parts.proofs.GatheredTexts.{adds_same}
 use Rattle.session_slots.specs.Counts.{products}
-use Rattle.job_plan.specs.Plans.{Plan, session}
-use Rattle.job_plan.specs.Messages.{messages}
+use Rattle.plan_model.specs.Plans.{Plan, session}
+use Rattle.plan_model.specs.Messages.{messages}
 use Rattle.output_text.specs.CheckText.{count_line, words_line}
 use Rattle.output_text.specs.SampleText.{sample_text}
 use Rattle.output_text.proofs.sample.gather_sample.Goals as goal

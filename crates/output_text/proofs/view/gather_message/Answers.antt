@@ -1,8 +1,8 @@
 use Rattle.std.proofs.Common.{◌≡◌, ◌<◌, length, sym, ap, ◌∙◌, subst}
 use Rattle.outer_io.proofs.GatheredTexts.{adds_nothing}
 use Rattle.text_parts.proofs.GatheredTexts.{adds_same}
-use Rattle.job_plan.specs.Messages.{messages}
-use Rattle.job_plan.specs.Numbers.{message}
+use Rattle.plan_model.specs.Messages.{messages}
+use Rattle.plan_model.specs.Numbers.{message}
 use Rattle.share_world.specs.Worlds.{word}
 use Rattle.view_text.specs.ViewText.{message_line}
 use Rattle.output_text.proofs.SeenMessages.{seen-own, seen-other}

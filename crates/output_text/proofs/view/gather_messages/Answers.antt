@@ -2,7 +2,7 @@ use Rattle.std.proofs.Common.{◌≡◌, length, refl, sym, ap, ◌∙◌, arith
 use Rattle.list_laws.specs.Lists.{joined}
 use Rattle.outer_io.proofs.GatheredTexts.{adds_nothing}
 use Rattle.text_parts.proofs.GatheredTexts.{adds_same, adds_more}
-use Rattle.job_plan.specs.Messages.{session_messages}
+use Rattle.plan_model.specs.Messages.{session_messages}
 use Rattle.output_text.specs.Seen.{session_seen}
 use Rattle.output_text.proofs.SeenMessages.{seen-joined}
 use Rattle.output_text.proofs.view.gather_messages.Goals as goal

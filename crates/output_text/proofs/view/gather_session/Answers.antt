@@ -2,8 +2,8 @@ use Rattle.std.proofs.Common.{◌≡◌, refl, sym, ap, ◌∙◌, arith}
 use Rattle.list_laws.specs.Lists.{joined}
 use Rattle.outer_io.proofs.GatheredTexts.{adds_nothing}
 use Rattle.text_parts.proofs.GatheredTexts.{adds_same, adds_more}
-use Rattle.job_plan.specs.Plans.{slot, slots}
-use Rattle.job_plan.specs.Messages.{slot_messages}
+use Rattle.plan_model.specs.Plans.{slot, slots}
+use Rattle.plan_model.specs.Messages.{slot_messages}
 use Rattle.output_text.specs.Seen.{slot_seen}
 use Rattle.output_text.proofs.SeenMessages.{seen-joined}
 use Rattle.output_text.proofs.view.gather_session.Goals as goal

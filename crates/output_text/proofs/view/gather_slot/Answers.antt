@@ -3,8 +3,8 @@ use Rattle.std.specs.Prelude.{slice_index_or}
 use Rattle.list_laws.specs.Lists.{joined}
 use Rattle.outer_io.proofs.GatheredTexts.{adds_nothing}
 use Rattle.text_parts.proofs.GatheredTexts.{adds_same, adds_more}
-use Rattle.job_plan.specs.Patterns.{named, transfers, pattern_at}
-use Rattle.job_plan.proofs.RankSearch.{no_transfer}
+use Rattle.plan_model.specs.Patterns.{named, transfers, pattern_at}
+use Rattle.plan_model.proofs.RankSearch.{no_transfer}
 use Rattle.output_text.specs.Seen.{seen_lines}
 use Rattle.view_text.proofs.SeenMessages.{transfer_is, number_small}
 use Rattle.output_text.proofs.SeenMessages.{slot_is}

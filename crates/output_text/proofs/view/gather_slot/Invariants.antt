@@ -2,8 +2,8 @@ use Rattle.std.proofs.Common.{◌≡◌, [], ◌∷◌}
 use Rattle.std.specs.Prelude.{slice_index_or}
 use Rattle.list_laws.specs.Lists.{joined}
 use Rattle.outer_io.specs.Blocks.{Adds}
-use Rattle.job_plan.specs.Patterns.{named}
-use Rattle.job_plan.proofs.RankSearch.{no_transfer}
+use Rattle.plan_model.specs.Patterns.{named}
+use Rattle.plan_model.proofs.RankSearch.{no_transfer}
 use Rattle.share_world.specs.Worlds.{World}
 use Rattle.desk_workers.specs.Runs.{IsOver}
 use Rattle.output_text.specs.Seen.{seen_lines}

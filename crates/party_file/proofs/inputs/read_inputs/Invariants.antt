@@ -1,7 +1,7 @@
 use Rattle.std.proofs.Common.{◌≡◌, map, take, None}
 use Rattle.toml.specs.View.{view}
 use Rattle.toml_fields.specs.Fields.{text_of}
-use Rattle.job_plan.specs.InputWords.{session_words}
+use Rattle.plan_model.specs.InputWords.{session_words}
 use Rattle.list_laws.specs.Lists.{joined}
 use Rattle.list_laws.specs.Checks.{first_fault}
 use Rattle.party_file.specs.Table.{numbers_in}

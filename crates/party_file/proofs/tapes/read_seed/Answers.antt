@@ -1,7 +1,7 @@
 use Rattle.std.proofs.Common.{inr, ap, ◌∙◌, length, ℕ, List}
 use Rattle.list_laws.specs.Lists.{listed}
 use Rattle.tape_words.specs.Seeds.{seed_word}
-use Rattle.job_plan.specs.Plans.{words}
+use Rattle.plan_model.specs.Plans.{words}
 use Rattle.party_file.proofs.WordChecks.{seed-ok, seed-err}
 use Rattle.party_file.proofs.tapes.read_seed.Goals as goal
 

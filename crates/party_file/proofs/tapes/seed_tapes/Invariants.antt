@@ -1,7 +1,7 @@
 use Rattle.std.proofs.Common.{◌≡◌}
 use Rattle.list_laws.specs.Lists.{listed}
 use Rattle.tape_words.specs.Seeds.{seed_word}
-use Rattle.job_plan.specs.Plans.{words}
+use Rattle.plan_model.specs.Plans.{words}
 use Rattle.party_file.proofs.tapes.seed_tapes.Given as goal
 
 abbrev pub invariant-loop-session : goal.invariant-loop-session

@@ -1,6 +1,6 @@
 use Rattle.std.proofs.Common.{◌≡◌}
 use Rattle.list_laws.specs.Lists.{listed}
-use Rattle.job_plan.specs.Plans.{words}
+use Rattle.plan_model.specs.Plans.{words}
 use Rattle.party_file.proofs.tapes.word_counts.Given as goal
 
 abbrev pub invariant-loop-session : goal.invariant-loop-session

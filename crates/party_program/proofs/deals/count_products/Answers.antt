@@ -1,5 +1,5 @@
 use Rattle.std.proofs.Common.{◌≡◌, ◌+◌, if◌then◌else◌, List, length, ap, ap₂, ◌∙◌}
-use Rattle.party_program.specs.declared.half.Half.TheVariants.{Head, Tail}
+use Rattle.program_model.specs.declared.half.Half.TheVariants.{Head, Tail}
 use Rattle.party_program.specs.declared.step.Step.{Step}
 use Rattle.party_program.proofs.GrownDeals.{as_number}
 use Rattle.party_program.proofs.deals.count_products.Goals as goal

@@ -6,16 +6,16 @@ use Rattle.circuit_model.specs.declared.gate.Gate.{Gate}
 use Rattle.secret_sharing.specs.Schemes.{has_pair}
 use Rattle.session_slots.specs.Sessions.{Session, owners, gate, no_gate}
 use Rattle.session_slots.proofs.SessionSlots.{direct_count, none_prepared, slot_gate}
-use Rattle.job_plan.specs.declared.pattern.Pattern.TheVariants.{Silent, Multiplied}
-use Rattle.job_plan.proofs.PlanSchemes.{plan_is}
-use Rattle.job_plan.specs.Plans.{IsPlan, Plan, scheme, session, slot, slots, deals_in}
-use Rattle.job_plan.specs.Patterns.{pattern}
+use Rattle.plan_model.specs.declared.pattern.Pattern.TheVariants.{Silent, Multiplied}
+use Rattle.plan_model.proofs.PlanSchemes.{plan_is}
+use Rattle.plan_model.specs.Plans.{IsPlan, Plan, scheme, session, slot, slots, deals_in}
+use Rattle.plan_model.specs.Patterns.{pattern}
 use Rattle.party_program.specs.declared.step.Step.{Step}
-use Rattle.party_program.specs.declared.half.Half.{Half}
-use Rattle.party_program.specs.declared.half.Half.TheVariants.{Head, Tail}
+use Rattle.program_model.specs.declared.half.Half.{Half}
+use Rattle.program_model.specs.declared.half.Half.TheVariants.{Head, Tail}
 use Rattle.party_program.specs.declared.step_table.StepTable.{StepTable}
-use Rattle.job_plan.specs.Sound.{IsSound}
-use Rattle.party_program.specs.Programs.{head, tail, half_program, slot_program}
+use Rattle.plan_model.specs.Sound.{IsSound}
+use Rattle.program_model.specs.Programs.{head, tail, half_program, slot_program}
 use Rattle.party_program.specs.PartySteps.{steps}
 use Rattle.party_program.specs.ProgramPlaces.{AreDeals, AreSteps}
 use Rattle.party_program.proofs.FollowedPatterns.{gate_pattern}

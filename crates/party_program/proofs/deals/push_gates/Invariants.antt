@@ -1,6 +1,6 @@
 use Rattle.std.proofs.Common.{◌+◌, length}
 use Rattle.session_slots.specs.Sessions.{owners}
-use Rattle.job_plan.specs.Plans.{session}
+use Rattle.plan_model.specs.Plans.{session}
 use Rattle.party_program.specs.ProgramPlaces.{AreDeals}
 use Rattle.party_program.proofs.deals.push_gates.Given as goal
 

@@ -1,17 +1,17 @@
 use Rattle.std.proofs.Common.{◌≡◌, ℕ, ◌+◌, ◌<◌, if◌then◌else◌, List, length, sym, ap, ◌∙◌, arith}
 use Rattle.std.proofs.lemmas.List.{length-append}
-use Rattle.job_plan.specs.Plans.{Plan, slot, slots, deals_in}
-use Rattle.job_plan.specs.Sound.{IsSound}
-use Rattle.job_plan.specs.Patterns.{pattern_at}
-use Rattle.job_plan.specs.declared.pattern.Pattern.{Pattern}
-use Rattle.party_program.specs.declared.half.Half.{Half}
-use Rattle.party_program.specs.declared.half.Half.TheVariants.{Head, Tail}
+use Rattle.plan_model.specs.Plans.{Plan, slot, slots, deals_in}
+use Rattle.plan_model.specs.Sound.{IsSound}
+use Rattle.plan_model.specs.Patterns.{pattern_at}
+use Rattle.plan_model.specs.declared.pattern.Pattern.{Pattern}
+use Rattle.program_model.specs.declared.half.Half.{Half}
+use Rattle.program_model.specs.declared.half.Half.TheVariants.{Head, Tail}
 use Rattle.party_program.specs.declared.step_table.StepTable.{StepTable}
 use Rattle.party_program.specs.declared.step.Step.{Step}
-use Rattle.party_program.specs.Programs.{head, tail, slot_program}
+use Rattle.program_model.specs.Programs.{head, tail, slot_program}
 use Rattle.party_program.specs.PartySteps.{deals_in_pattern, steps}
 use Rattle.party_program.specs.ProgramPlaces.{AreSteps, OccursIn}
-use Rattle.job_plan.proofs.PlanSchemes.{plan_is}
+use Rattle.plan_model.proofs.PlanSchemes.{plan_is}
 use Rattle.party_program.proofs.OccurringPatterns.{steps_found, deals_by_pattern}
 use Rattle.party_program.proofs.ProgramPlaces.{length-half}
 use Rattle.party_program.proofs.GrownDeals.{as_number, room_left, instructions_fit, one_more}

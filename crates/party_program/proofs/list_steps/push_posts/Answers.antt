@@ -1,10 +1,10 @@
 use Rattle.std.proofs.Common.{length, [], ◌∷◌, ◌++◌, nat_eq, ap, ◌∙◌, arith}
 use Rattle.std.specs.Prelude.{slice_index_or}
 use Rattle.list_laws.specs.Lists.{only_if}
-use Rattle.job_plan.specs.declared.pattern.Transfer.{Transfer}
+use Rattle.plan_model.specs.declared.pattern.Transfer.{Transfer}
 use Rattle.party_program.specs.declared.step.Step.TheVariants.{Post}
 use Rattle.party_program.specs.PartySteps.{post_step, is_from}
-use Rattle.party_program.proofs.FewTransfers.{few_transfers}
+use Rattle.plan_model.proofs.FewTransfers.{few_transfers}
 use Rattle.party_program.proofs.GrownLists.{passing_step}
 use Rattle.party_program.proofs.list_steps.push_posts.Goals as goal
 

@@ -7,13 +7,13 @@ use Rattle.session_slots.specs.declared.values.KeptWire.{KeptWire}
 use Rattle.session_slots.specs.Sessions.{Session, carries, no_kept, readers, session_at, source}
 use Rattle.session_slots.specs.Carries.{IsKeptAt, kept_from, kept_place}
 use Rattle.session_slots.specs.SlotNumbers.{first_of_gate}
-use Rattle.job_session.proofs.Carries.{kept_have_places}
+use Rattle.session_slots.proofs.Carries.{kept_have_places}
 use Rattle.session_slots.proofs.SessionSlots.{slots_are_numbered}
-use Rattle.job_plan.specs.Plans.{IsPlan, Plan, keeping_slot, session}
-use Rattle.job_plan.specs.Firsts.{first}
-use Rattle.job_plan.proofs.KeptPlaces.{kept_in}
-use Rattle.job_plan.proofs.PlanSchemes.{plan_is}
-use Rattle.job_plan.proofs.Slots.{few_slots}
+use Rattle.plan_model.specs.Plans.{IsPlan, Plan, keeping_slot, session}
+use Rattle.plan_model.specs.Firsts.{first}
+use Rattle.plan_model.proofs.KeptPlaces.{kept_in}
+use Rattle.plan_model.proofs.PlanSchemes.{plan_is}
+use Rattle.plan_model.proofs.Slots.{few_slots}
 use Rattle.party_program.specs.ProgramPlaces.{IsListed, IsReceived}
 use Rattle.party_program.proofs.received.add_kept.Goals as goal
 use Rattle.party_program.proofs.received.add_kept.Goals.{then-kept-s+in_ok-list_for, else-kept-s}

@@ -2,7 +2,7 @@ use Rattle.std.proofs.Common.{◌≡◌, ℕ, ◌<◌}
 use Rattle.session_slots.specs.declared.source.Source.TheVariants.{Earlier}
 use Rattle.session_slots.specs.Sessions.{source}
 use Rattle.session_slots.specs.Carries.{kept_place}
-use Rattle.job_plan.specs.Plans.{session}
+use Rattle.plan_model.specs.Plans.{session}
 use Rattle.party_program.specs.ProgramPlaces.{AreReceived, IsReceived}
 use Rattle.party_program.proofs.received.add_kept.Given as goal
 

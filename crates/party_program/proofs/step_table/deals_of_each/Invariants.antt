@@ -1,6 +1,6 @@
 use Rattle.std.proofs.Common.{◌≡◌}
 use Rattle.list_laws.specs.Lists.{listed}
-use Rattle.job_plan.specs.declared.pattern.Pattern.TheVariants.{Dealt}
+use Rattle.plan_model.specs.declared.pattern.Pattern.TheVariants.{Dealt}
 use Rattle.party_program.specs.PartySteps.{steps}
 use Rattle.party_program.proofs.step_table.deals_of_each.Given as goal
 

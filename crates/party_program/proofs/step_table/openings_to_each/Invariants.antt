@@ -1,5 +1,5 @@
 use Rattle.std.proofs.Common.{◌≡◌, map, take}
-use Rattle.job_plan.specs.declared.pattern.Pattern.TheVariants.{Opened}
+use Rattle.plan_model.specs.declared.pattern.Pattern.TheVariants.{Opened}
 use Rattle.party_program.specs.PartySteps.{steps}
 use Rattle.party_program.proofs.step_table.openings_to_each.Given as goal
 

@@ -1,5 +1,5 @@
 use Rattle.std.proofs.Common.{◌≡◌, ◌+◌, ◌*◌, ◌<◌, ◌∷◌, [], ℕ, ap, sym, ◌∙◌, subst, arith, length, length-append}
-use Rattle.product_duty.specs.Duties.{duty}
+use Rattle.secret_sharing.specs.Duties.{duty}
 use Rattle.product_duty.proofs.JoinedLists.{table_more}
 use Rattle.product_duty.proofs.PairDuties.{IsEither, either, some_outside, outside_is, at_place, at_row, by_rows}
 use Rattle.product_duty.proofs.duty.duties_of.Goals as goal

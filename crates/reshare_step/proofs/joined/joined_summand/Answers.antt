@@ -7,8 +7,8 @@ use Rattle.reshare_step.proofs.joined.joined_summand.Goals.{then-first, else-fir
 pub returns-clause-is : goal.returns-clause-is
 returns-clause-is c i first =
     let a = c.args in
-    let few = c.bits.ensures.few in
-    let sums = λ (both de : ℕ). joined_is 64 a.ring (omega (arith, c.bits.ensures.is)) a.c (a.d * a.b) (a.e * a.a) both de in
+    let few = c.recall.ensures.few in
+    let sums = λ (both de : ℕ). joined_is 64 a.ring (omega arith) a.c (a.d * a.b) (a.e * a.a) both de in
     elim c.if-first.branch [
       | then-first w ↦
           c.reduce.ensures.is ∙ sums c.if-first.both (a.d * a.e) (ap (λ n. n % 2 ^ 64) w.both-is ∙ mod-mod (a.d * a.e) (2 ^ 64))

@@ -1,9 +1,9 @@
 use Rattle.std.proofs.Common.{◌≡◌, ℕ, List, [], ◌∷◌, sym, subst, ap, ap₂, ◌∙◌}
 use Rattle.party_set.specs.Parties.{Structure}
 use Rattle.session_slots.specs.Sessions.{Session}
-use Rattle.job_plan.specs.Keeping.{AllFit, keeping}
-use Rattle.job_plan.specs.Plans.{plan_of}
-use Rattle.job_plan.specs.Multiply.{three_parties}
+use Rattle.session_slots.specs.Carries.{AllFit, keeping}
+use Rattle.plan_model.specs.Plans.{plan_of}
+use Rattle.plan_model.specs.Multiply.{three_parties}
 use Rattle.sample_maker.specs.Samples.{sample_plan, sample_session}
 use Rattle.sample_maker.proofs.OneSession.{fit_one}
 use Rattle.sample_maker.proofs.SampleLimits.{few_messages, few_words}

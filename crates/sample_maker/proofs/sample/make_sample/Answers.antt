@@ -1,7 +1,7 @@
 use Rattle.std.proofs.Common.{◌≡◌, sym, ap, ◌∙◌, subst}
 use Rattle.list_laws.specs.Lists.{listed}
-use Rattle.job_plan.specs.InputWords.{AreInputs}
-use Rattle.job_plan.specs.Plans.{Plan}
+use Rattle.plan_model.specs.InputWords.{AreInputs}
+use Rattle.plan_model.specs.Plans.{Plan}
 use Rattle.desk_laws.specs.Pieces.{ArePieces}
 use Rattle.sample_maker.specs.Samples.{sample_inputs, sample_piece, sample_pieces}
 use Rattle.sample_maker.proofs.SampleInputs.{inputs_fit}

@@ -2,7 +2,7 @@ use Rattle.std.proofs.Common.{◌≡◌, sym, ap, ◌∙◌, subst, arith}
 use Rattle.std.specs.Prelude.{slice_index, ◌^◌}
 use Rattle.list_laws.specs.Lists.{listed}
 use Rattle.mpc_ring.specs.Differences.{difference}
-use Rattle.job_plan.specs.Plans.{session}
+use Rattle.plan_model.specs.Plans.{session}
 use Rattle.tape_map.specs.Changes.{AreGrowths}
 use Rattle.tape_map.proofs.ChangedPieces.{differences_fit}
 use Rattle.tape_map.proofs.change.wire_growths.Goals as goal

@@ -4,8 +4,8 @@ use Rattle.std.specs.Global.{Vec}
 use Rattle.std.proofs.lemmas.List.{get_or-replicate, length-map, length-replicate, with_items_is}
 use Rattle.list_laws.specs.Lists.{joined}
 use Rattle.list_laws.proofs.JoinedLists.{joined_more, length-listed, listed_at}
-use Rattle.job_plan.specs.InputWords.{session_words}
-use Rattle.job_plan.specs.Plans.{place}
+use Rattle.plan_model.specs.InputWords.{session_words}
+use Rattle.plan_model.specs.Plans.{place}
 use Rattle.share_world.specs.Worlds.{World}
 use Rattle.wire_tables.specs.WireTables.{value_list, value_lists, world_of}
 use Rattle.wire_tables.proofs.ListedRows.{listed_of, row_read}

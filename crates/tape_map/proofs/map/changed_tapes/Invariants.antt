@@ -1,8 +1,8 @@
 use Rattle.std.proofs.Common.{◌≡◌, ℕ, ◌<◌, List, [], length}
 use Rattle.std.specs.Prelude.{slice_index_or}
 use Rattle.list_laws.specs.Lists.{joined}
-use Rattle.job_plan.specs.InputWords.{session_words}
-use Rattle.job_plan.specs.Plans.{place}
+use Rattle.plan_model.specs.InputWords.{session_words}
+use Rattle.plan_model.specs.Plans.{place}
 use Rattle.wire_tables.specs.WireTables.{AreCarried, value_lists, world_of}
 use Rattle.tape_map.specs.TapeMaps.{piece_map, with_inputs}
 use Rattle.tape_map.proofs.map.changed_tapes.Given as goal

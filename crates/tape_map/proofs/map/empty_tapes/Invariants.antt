@@ -1,5 +1,5 @@
 use Rattle.std.proofs.Common.{◌≡◌, [], replicate}
-use Rattle.job_plan.specs.InputWords.{session_words}
+use Rattle.plan_model.specs.InputWords.{session_words}
 use Rattle.tape_map.proofs.map.empty_tapes.Given as goal
 
 abbrev pub invariant-loop-party : goal.invariant-loop-party

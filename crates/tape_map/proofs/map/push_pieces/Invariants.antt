@@ -1,6 +1,6 @@
 use Rattle.std.proofs.Common.{◌≡◌, ℕ, ◌<◌, ◌≤◌, ◌++◌, [], length}
 use Rattle.std.specs.Prelude.{slice_index_or}
-use Rattle.job_plan.specs.InputWords.{session_words}
+use Rattle.plan_model.specs.InputWords.{session_words}
 use Rattle.tape_map.specs.Changes.{grown_piece}
 use Rattle.tape_map.proofs.map.push_pieces.Given as goal
 

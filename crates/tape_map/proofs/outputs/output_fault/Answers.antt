@@ -4,8 +4,8 @@ use Rattle.std.specs.Global.{Vec}
 use Rattle.std.proofs.lemmas.List.{length-map}
 use Rattle.list_laws.specs.Checks.{first_fault}
 use Rattle.list_laws.proofs.FirstFaults.{joined-stops, joined_more-passed}
-use Rattle.job_plan.specs.InputWords.{session_words}
-use Rattle.job_plan.specs.Plans.{Plan}
+use Rattle.plan_model.specs.InputWords.{session_words}
+use Rattle.plan_model.specs.Plans.{Plan}
 use Rattle.wire_tables.specs.WireTables.{value_at}
 use Rattle.wire_tables.proofs.ListedRows.{row_read}
 use Rattle.tape_map.specs.MapFaults.{value_checks}

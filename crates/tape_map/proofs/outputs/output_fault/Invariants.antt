@@ -1,7 +1,7 @@
 use Rattle.std.proofs.Common.{◌≡◌, None}
 use Rattle.list_laws.specs.Lists.{joined}
 use Rattle.list_laws.specs.Checks.{first_fault}
-use Rattle.job_plan.specs.InputWords.{session_words}
+use Rattle.plan_model.specs.InputWords.{session_words}
 use Rattle.wire_tables.specs.WireTables.{value_at}
 use Rattle.tape_map.specs.MapFaults.{value_checks}
 use Rattle.tape_map.proofs.outputs.output_fault.Given as goal

@@ -2,7 +2,7 @@ use Rattle.std.proofs.Common.{◌≡◌, ◌&&◌, not, nat_eq, true, false, [],
 use Rattle.std.specs.Prelude.{slice_index}
 use Rattle.party_set.specs.Parties.{has_party}
 use Rattle.session_slots.specs.Sessions.{Session, readers, output_wire}
-use Rattle.job_plan.specs.Plans.{session, reads}
+use Rattle.plan_model.specs.Plans.{session, reads}
 use Rattle.tape_map.specs.MapFaults.{output_check}
 use Rattle.tape_map.specs.declared.fault.MapFault.TheVariants.{OutputDiffers}
 use Rattle.list_laws.proofs.FirstFaults.{joined-stops, joined_more-passed, one-fails, one-passed}

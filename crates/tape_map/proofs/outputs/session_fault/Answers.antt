@@ -3,7 +3,7 @@ use Rattle.std.specs.Prelude.{slice_index}
 use Rattle.list_laws.specs.Lists.{listed}
 use Rattle.list_laws.specs.Checks.{first_fault}
 use Rattle.session_slots.specs.Sessions.{Session, readers, output_wire}
-use Rattle.job_plan.specs.Plans.{session}
+use Rattle.plan_model.specs.Plans.{session}
 use Rattle.tape_map.specs.MapFaults.{output_check}
 use Rattle.tape_map.specs.declared.fault.MapFault.{MapFault}
 use Rattle.list_laws.proofs.FirstFaults.{joined-stops, joined_more-passed}

@@ -3,7 +3,7 @@ use Rattle.std.specs.Prelude.{slice_index}
 use Rattle.list_laws.specs.Lists.{joined, listed}
 use Rattle.list_laws.specs.Checks.{first_fault}
 use Rattle.session_slots.specs.Sessions.{output_wire}
-use Rattle.job_plan.specs.Plans.{session}
+use Rattle.plan_model.specs.Plans.{session}
 use Rattle.tape_map.specs.MapFaults.{output_check}
 use Rattle.tape_map.proofs.outputs.session_fault.Given as goal
 

@@ -1,5 +1,5 @@
 use Rattle.list_laws.specs.Lists.{joined}
-use Rattle.job_plan.specs.Messages.{session_messages}
+use Rattle.plan_model.specs.Messages.{session_messages}
 use Rattle.wire_tables.specs.WireTables.{AreCarried}
 use Rattle.view_check.specs.Audits.{audited_world}
 use Rattle.view_text.specs.Seen.{seen_of}

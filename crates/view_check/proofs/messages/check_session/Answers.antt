@@ -1,8 +1,8 @@
 use Rattle.std.proofs.Common.{◌≡◌, ℕ, ◌+◌, List, sym, subst, arith}
 use Rattle.list_laws.specs.Lists.{joined}
-use Rattle.job_plan.specs.declared.key.Key.{Key}
-use Rattle.job_plan.specs.Plans.{slot, slots}
-use Rattle.job_plan.specs.Messages.{slot_messages}
+use Rattle.plan_model.specs.declared.key.Key.{Key}
+use Rattle.plan_model.specs.Plans.{slot, slots}
+use Rattle.plan_model.specs.Messages.{slot_messages}
 use Rattle.share_world.specs.Worlds.{World}
 use Rattle.std.proofs.lemmas.List.{with_items_is}
 use Rattle.wire_tables.specs.Places.{ArePlaces}

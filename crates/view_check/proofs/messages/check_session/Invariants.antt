@@ -1,6 +1,6 @@
 use Rattle.list_laws.specs.Lists.{joined}
-use Rattle.job_plan.specs.Messages.{slot_messages}
-use Rattle.job_plan.specs.Plans.{slot}
+use Rattle.plan_model.specs.Messages.{slot_messages}
+use Rattle.plan_model.specs.Plans.{slot}
 use Rattle.wire_tables.specs.Places.{ArePlaces}
 use Rattle.view_check.specs.Audits.{audited_world}
 use Rattle.view_text.specs.Seen.{seen_of}

@@ -1,5 +1,5 @@
 use Rattle.std.proofs.Common.{take, map}
-use Rattle.job_plan.specs.Patterns.{named}
+use Rattle.plan_model.specs.Patterns.{named}
 use Rattle.view_check.specs.Audits.{audited_world}
 use Rattle.view_text.specs.Seen.{seen_of}
 use Rattle.view_check.specs.Views.{Passes}

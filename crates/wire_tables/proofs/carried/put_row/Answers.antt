@@ -1,6 +1,6 @@
 use Rattle.std.proofs.Common.{nat_eq, if◌then◌else◌, ◌∷◌, [], length, ap, ◌∙◌, arith, length-append}
 use Rattle.std.specs.Prelude.{slice_index_or}
-use Rattle.job_plan.specs.InputWords.{session_words}
+use Rattle.plan_model.specs.InputWords.{session_words}
 use Rattle.wire_tables.proofs.ListedRows.{row_behind, row_set}
 use Rattle.wire_tables.proofs.carried.put_row.Goals as goal
 

@@ -1,6 +1,6 @@
 use Rattle.std.proofs.Common.{◌≡◌, ℕ, [], length}
 use Rattle.std.specs.Prelude.{slice_index_or}
-use Rattle.job_plan.specs.InputWords.{session_words}
+use Rattle.plan_model.specs.InputWords.{session_words}
 use Rattle.wire_tables.proofs.carried.put_row.Given as goal
 
 -- the rows are as they were, with rows without words behind them

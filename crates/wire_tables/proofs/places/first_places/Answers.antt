@@ -1,8 +1,8 @@
 use Rattle.std.proofs.Common.{◌≡◌, ℕ, length, ap, ◌∙◌, arith}
 use Rattle.std.specs.Prelude.{slice_index}
 use Rattle.list_laws.proofs.JoinedLists.{length-listed, listed_at}
-use Rattle.job_plan.specs.Plans.{place}
-use Rattle.job_plan.proofs.GrownLists.{listed_push}
+use Rattle.plan_model.specs.Plans.{place}
+use Rattle.plan_model.proofs.GrownLists.{listed_push}
 use Rattle.wire_tables.proofs.places.first_places.Goals as goal
 
 pub loop-p-preserved : goal.loop-p-preserved

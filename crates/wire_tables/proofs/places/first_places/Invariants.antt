@@ -1,6 +1,6 @@
 use Rattle.std.proofs.Common.{◌≡◌}
 use Rattle.list_laws.specs.Lists.{listed}
-use Rattle.job_plan.specs.Plans.{place}
+use Rattle.plan_model.specs.Plans.{place}
 use Rattle.wire_tables.proofs.places.first_places.Given as goal
 
 abbrev pub invariant-loop-p : goal.invariant-loop-p

@@ -1,7 +1,7 @@
 use Rattle.std.proofs.Common.{◌≡◌, ap, ◌∙◌, arith}
 use Rattle.session_slots.specs.Sessions.{session_slot}
 use Rattle.session_slots.specs.SoundSessions.{slot_of_kind}
-use Rattle.job_plan.specs.Plans.{slot, words_in}
+use Rattle.plan_model.specs.Plans.{slot, words_in}
 use Rattle.wire_tables.proofs.NextPlaces.{place_within}
 use Rattle.wire_tables.proofs.places.pass_slot.Goals as goal
 

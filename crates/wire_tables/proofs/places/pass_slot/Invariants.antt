@@ -1,6 +1,6 @@
 use Rattle.std.proofs.Common.{◌≡◌, ℕ, ◌+◌, ◌<◌, ◌≤◌, length}
 use Rattle.std.specs.Prelude.{slice_index}
-use Rattle.job_plan.specs.Plans.{place}
+use Rattle.plan_model.specs.Plans.{place}
 use Rattle.wire_tables.proofs.places.pass_slot.Given as goal
 
 -- the parties so far are behind the slot, the others are before it

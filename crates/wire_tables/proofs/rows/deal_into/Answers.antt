@@ -1,11 +1,12 @@
-use Rattle.std.proofs.Common.{◌≡◌, ℕ, ◌-◌, ◌%◌, ◌^◌, ◌<◌, List, [], ◌∷◌, ◌++◌, length, take, drop, ap, ap₂, ◌∙◌, arith, pow_pos}
+use Rattle.std.proofs.Common.{◌≡◌, ℕ, ◌-◌, ◌%◌, ◌^◌, ◌<◌, List, [], ◌∷◌, ◌++◌, length, take, drop, sum, sym, ap, ap₂, ◌∙◌, arith, pow_pos}
 use Rattle.std.specs.Prelude.{slice_index, slice_index_or}
 use Rattle.std.specs.Global.{Vec}
 use Rattle.std.proofs.lemmas.List.{length-map}
 use Rattle.list_laws.specs.Lists.{total}
+use Rattle.list_laws.proofs.Totals.{total_items}
 use Rattle.mpc_ring.specs.Differences.{difference}
-use Rattle.job_plan.specs.Plans.{scheme}
-use Rattle.job_plan.specs.InputWords.{session_words}
+use Rattle.plan_model.specs.Plans.{scheme}
+use Rattle.plan_model.specs.InputWords.{session_words}
 use Rattle.wire_tables.proofs.ListedRows.{row_read}
 use Rattle.wire_tables.proofs.DealtRows.{dealt_list}
 use Rattle.wire_tables.proofs.rows.deal_into.Goals as goal
@@ -22,7 +23,7 @@ returns c =
     let words_are : c.words_at-words.result.now ≡ take n (drop at tape) = c.words_at-words.ensures ∙ ap₂ (λ k t. take k (drop at t)) count tape_is in
     let missing : c.sub.result ≡ difference (2 ^ plan.bits) c.args.value (total (length (take n (drop at tape))) (slice_index (take n (drop at tape))) % 2 ^ plan.bits) =
     c.sub.ensures.is
-    ∙ ap (difference (2 ^ c.ring-ring.result) c.args.value) (c.sum.ensures.is ∙ ap (λ ws. total (length ws) (slice_index ws) % 2 ^ c.ring-ring.result) words_are)
+    ∙ ap (difference (2 ^ c.ring-ring.result) c.args.value) (c.sum.ensures.is ∙ ap (λ ws. sum ws % 2 ^ c.ring-ring.result) words_are ∙ ap (λ z. z % 2 ^ c.ring-ring.result) (sym (total_items (take n (drop at tape)))))
     ∙ ap (λ b. difference (2 ^ b) c.args.value (total (length (take n (drop at tape))) (slice_index (take n (drop at tape))) % 2 ^ b)) c.ring-ring.ensures.is in
     c.in_ok-push.ensures.items
     ∙ ap (λ xs. xs ++ c.sub.result ∷ []) (c.in_ok-extend_from_slice.ensures.items ∙ ap₂ (λ xs ys. xs ++ ys) c.clear.ensures.items words_are)

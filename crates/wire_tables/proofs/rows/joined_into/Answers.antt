@@ -1,8 +1,8 @@
 use Rattle.std.proofs.Common.{◌≡◌, ℕ, ◌^◌, length, refl, ap, ◌∙◌}
 use Rattle.std.specs.Prelude.{slice_index}
 use Rattle.secret_sharing.specs.Prepared.{joined_summand, prepared_summand}
-use Rattle.job_plan.specs.Plans.{scheme}
-use Rattle.job_plan.proofs.GrownLists.{listed_push}
+use Rattle.plan_model.specs.Plans.{scheme}
+use Rattle.plan_model.proofs.GrownLists.{listed_push}
 use Rattle.share_world.proofs.LocalWords.{joined_same}
 use Rattle.wire_tables.proofs.DealtRows.{excess_is}
 use Rattle.wire_tables.proofs.rows.joined_into.Goals as goal

@@ -2,7 +2,7 @@ use Rattle.std.proofs.Common.{◌≡◌}
 use Rattle.std.specs.Prelude.{slice_index}
 use Rattle.list_laws.specs.Lists.{listed}
 use Rattle.secret_sharing.specs.Prepared.{prepared_summand}
-use Rattle.job_plan.specs.Plans.{scheme}
+use Rattle.plan_model.specs.Plans.{scheme}
 use Rattle.wire_tables.proofs.rows.joined_into.Given as goal
 
 abbrev pub invariant-loop-i : goal.invariant-loop-i

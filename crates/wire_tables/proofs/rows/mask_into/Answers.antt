@@ -1,8 +1,8 @@
 use Rattle.std.proofs.Common.{◌≡◌, [], ap, ◌∙◌, arith}
 use Rattle.std.proofs.lemmas.Grind.{common_steps, get_or_default_zero}
 use Rattle.party_set.specs.Parties.{Structure}
-use Rattle.job_plan.specs.Plans.{holder_of, plan_of}
-use Rattle.job_plan.proofs.GrownLists.{listed_push}
+use Rattle.plan_model.specs.Plans.{holder_of, plan_of}
+use Rattle.plan_model.proofs.GrownLists.{listed_push}
 use Rattle.wire_tables.specs.Places.{mask_at}
 use Rattle.wire_tables.specs.WireTables.{world_of}
 use Rattle.wire_tables.proofs.DealtRows.{mask_word}

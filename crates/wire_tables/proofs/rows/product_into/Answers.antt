@@ -5,13 +5,13 @@ use Rattle.std.proofs.lemmas.List.{with_items_is}
 use Rattle.std.proofs.lemmas.Bool.{cond-true}
 use Rattle.list_laws.specs.Lists.{total, listed}
 use Rattle.list_laws.proofs.JoinedLists.{length-listed, listed_at}
-use Rattle.mpc_ring.proofs.Totals.{total_step_alone}
+use Rattle.secret_sharing.proofs.RingTotals.{total_step}
 use Rattle.secret_sharing.specs.Schemes.{has_pair, own_product}
 use Rattle.secret_sharing.proofs.SummandSums.{dealt_small}
 use Rattle.party_set.specs.Parties.{Structure}
-use Rattle.product_duty.specs.Duties.{scheme_of}
-use Rattle.job_plan.specs.Plans.{scheme}
-use Rattle.job_plan.specs.InputWords.{session_words}
+use Rattle.secret_sharing.specs.Duties.{scheme_of}
+use Rattle.plan_model.specs.Plans.{scheme}
+use Rattle.plan_model.specs.InputWords.{session_words}
 use Rattle.wire_tables.specs.Places.{dealt_at}
 use Rattle.wire_tables.specs.WireTables.{world_of}
 use Rattle.wire_tables.proofs.ListedRows.{listed_of}
@@ -57,7 +57,7 @@ loop-p-preserved c =
                 ap (λ xs. slice_index xs i) is
                 ∙ w.add_row.ensures.added i (omega (arith, long, w.add_row.ensures.long))
                 ∙ ap (λ b. (slice_index w.deref_mut.result.now i + slice_index w.deref.result.now i) % 2 ^ b) c.ring-ring.ensures.is
-                ∙ total_step_alone (2 ^ plan.bits) p (λ p. if has_pair (scheme plan) p then dealt p i else 0) (slice_index w.deref_mut.result.now i) (slice_index w.deref.result.now i) before here;
+                ∙ total_step (2 ^ plan.bits) p (λ p. if has_pair (scheme plan) p then dealt p i else 0) (slice_index w.deref_mut.result.now i) (slice_index w.deref.result.now i) before here;
           }
       | else-multiplies w ↦
           let is : c.if-multiplies.sums.items ≡ c.loop-p.sums.items = ap (λ (v : Vec ℕ). v.items) w.sums-is in

@@ -2,7 +2,7 @@ use Rattle.std.proofs.Common.{◌≡◌, ℕ, ◌%◌, ◌^◌, ◌<◌, if◌th
 use Rattle.std.specs.Prelude.{slice_index}
 use Rattle.list_laws.specs.Lists.{total}
 use Rattle.secret_sharing.specs.Schemes.{has_pair, own_product}
-use Rattle.job_plan.specs.Plans.{scheme}
+use Rattle.plan_model.specs.Plans.{scheme}
 use Rattle.wire_tables.specs.Places.{dealt_at}
 use Rattle.wire_tables.specs.WireTables.{world_of}
 use Rattle.wire_tables.proofs.rows.product_into.Given as goal

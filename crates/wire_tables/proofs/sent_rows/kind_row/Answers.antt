@@ -5,7 +5,7 @@ use Rattle.std.proofs.lemmas.Result.{IfOk-weaker}
 use Rattle.list_laws.specs.Lists.{listed}
 use Rattle.mpc_ring.specs.Differences.{difference}
 use Rattle.session_slots.specs.SoundSessions.{slot_of_kind, Inside}
-use Rattle.job_plan.specs.Plans.{deals_in}
+use Rattle.plan_model.specs.Plans.{deals_in}
 use Rattle.share_world.specs.Worlds.{World}
 use Rattle.wire_tables.specs.WireTables.{world_of}
 use Rattle.wire_tables.proofs.NextPlaces.{has_words}

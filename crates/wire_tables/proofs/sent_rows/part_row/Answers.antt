@@ -2,9 +2,9 @@ use Rattle.std.proofs.Common.{◌≡◌, ℕ, length, ap, ap₂, ◌∙◌}
 use Rattle.std.specs.Prelude.{slice_index}
 use Rattle.list_laws.specs.Lists.{listed}
 use Rattle.party_set.specs.Parties.{Structure}
-use Rattle.product_duty.specs.Duties.{scheme_of}
+use Rattle.secret_sharing.specs.Duties.{scheme_of}
 use Rattle.secret_sharing.specs.Schemes.{own_product}
-use Rattle.job_plan.specs.Plans.{scheme}
+use Rattle.plan_model.specs.Plans.{scheme}
 use Rattle.wire_tables.specs.Places.{dealt_at}
 use Rattle.wire_tables.specs.WireTables.{world_of}
 use Rattle.wire_tables.proofs.sent_rows.part_row.Goals as goal

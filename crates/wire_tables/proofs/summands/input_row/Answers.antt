@@ -7,7 +7,7 @@ use Rattle.list_laws.proofs.JoinedLists.{length-listed, listed_at}
 use Rattle.session_slots.specs.declared.source.Source.TheVariants.{Given, Earlier}
 use Rattle.session_slots.specs.Sessions.{Session, given_by, owners, source}
 use Rattle.session_slots.specs.Sessions.Slot.{Input}
-use Rattle.job_plan.specs.Plans.{deals_in, session, slot}
+use Rattle.plan_model.specs.Plans.{deals_in, session, slot}
 use Rattle.share_world.specs.Worlds.{World, carried_wire, end_summands, input_of, source_input}
 use Rattle.wire_tables.specs.WireTables.{world_of}
 use Rattle.wire_tables.proofs.NextPlaces.{has_words}

@@ -1,7 +1,7 @@
 use Rattle.std.proofs.Common.{◌≡◌, sym, ap, ◌∙◌, subst}
 use Rattle.session_slots.specs.Sessions.{Session, mask_wire, product_in, session_slot}
 use Rattle.session_slots.specs.Sessions.Slot.{Mask, Mask_product}
-use Rattle.job_plan.specs.Plans.{session, slot, deals_in}
+use Rattle.plan_model.specs.Plans.{session, slot, deals_in}
 use Rattle.share_world.specs.Worlds.{World}
 use Rattle.wire_tables.specs.Steps.{SetsRow}
 use Rattle.wire_tables.specs.WireTables.{world_of}

@@ -1,7 +1,7 @@
 use Rattle.std.proofs.Common.{◌≡◌, ◌<◌, ◌≤◌, length, replicate, sym, ap, ◌∙◌, subst, arith}
 use Rattle.session_slots.specs.Sessions.{Session, row_names}
 use Rattle.session_slots.proofs.RowNames.{wires_named}
-use Rattle.job_plan.specs.Plans.{Plan, session}
+use Rattle.plan_model.specs.Plans.{Plan, session}
 use Rattle.wire_tables.proofs.RowSteps.{rows_first}
 use Rattle.wire_tables.proofs.summands.unset_rows.Goals as goal
 

@@ -1,7 +1,7 @@
 use Rattle.std.proofs.Common.{◌≡◌, ℕ, ◌<◌, ◌≤◌, [], length, replicate}
 use Rattle.std.specs.Prelude.{slice_index_or}
-use Rattle.job_plan.specs.InputWords.{session_words}
-use Rattle.job_plan.specs.Plans.{session}
+use Rattle.plan_model.specs.InputWords.{session_words}
+use Rattle.plan_model.specs.Plans.{session}
 use Rattle.wire_tables.proofs.summands.unset_rows.Given as goal
 
 -- zeros of the wires so far

@@ -7,9 +7,9 @@ use Rattle.std.proofs.lemmas.Grind.{get_or_default_zero}
 use Rattle.std.proofs.lemmas.List.{length-map, map-set}
 use Rattle.session_slots.specs.declared.values.KeptWire.{KeptWire}
 use Rattle.session_slots.specs.Sessions.{Session, kept_wire, no_kept, output_wire, owners}
-use Rattle.job_plan.specs.InputWords.{session_words}
-use Rattle.job_plan.specs.Plans.{Plan, session}
-use Rattle.job_plan.specs.Sound.{IsSound}
+use Rattle.plan_model.specs.InputWords.{session_words}
+use Rattle.plan_model.specs.Plans.{Plan, session}
+use Rattle.plan_model.specs.Sound.{IsSound}
 use Rattle.wire_tables.specs.WireTables.{value_at}
 use Rattle.wire_tables.proofs.HandedOn.{SoFar, one_more, all_handed_on, is_kept_at, kept_later}
 use Rattle.wire_tables.proofs.ListedRows.{item_set, set_is, row_read}

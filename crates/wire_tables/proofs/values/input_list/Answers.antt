@@ -4,9 +4,9 @@ use Rattle.std.specs.Global.{Vec}
 use Rattle.std.proofs.lemmas.List.{with_items_is}
 use Rattle.session_slots.specs.declared.source.Source.TheVariants.{Given}
 use Rattle.session_slots.specs.Sessions.{Session, owners, source}
-use Rattle.job_plan.specs.InputWords.{given}
-use Rattle.job_plan.specs.Plans.{session, given_before, input_count}
-use Rattle.job_plan.proofs.GrownLists.{listed_push}
+use Rattle.plan_model.specs.InputWords.{given}
+use Rattle.plan_model.specs.Plans.{session, given_before, input_count}
+use Rattle.plan_model.proofs.GrownLists.{listed_push}
 use Rattle.share_world.specs.Worlds.{World, input_of, source_input}
 use Rattle.wire_tables.proofs.ValueSteps.{given_next, carried_next, given_within}
 use Rattle.wire_tables.proofs.values.input_list.Goals as goal

@@ -1,7 +1,7 @@
 use Rattle.std.proofs.Common.{◌≡◌, ℕ, ◌<◌, [], length}
 use Rattle.std.specs.Prelude.{slice_index}
 use Rattle.list_laws.specs.Lists.{listed}
-use Rattle.job_plan.specs.Plans.{given_before}
+use Rattle.plan_model.specs.Plans.{given_before}
 use Rattle.share_world.specs.Worlds.{input_of}
 use Rattle.wire_tables.proofs.values.input_list.Given as goal
 

@@ -6,7 +6,7 @@ use Rattle.std.proofs.lemmas.List.{length-replicate, get_or_default, with_items_
 use Rattle.circuit_model.specs.declared.gate.Gate.{Gate}
 use Rattle.circuit_model.specs.Circuits.{operate, set_at, values}
 use Rattle.session_slots.specs.Sessions.{Session, gate}
-use Rattle.job_plan.specs.Plans.{session}
+use Rattle.plan_model.specs.Plans.{session}
 use Rattle.wire_tables.proofs.ListedRows.{listed_of}
 use Rattle.wire_tables.proofs.ValueSteps.{padded, value_next}
 use Rattle.wire_tables.proofs.values.run_gates.Goals as goal

@@ -2,7 +2,7 @@ use Rattle.std.proofs.Common.{◌≡◌, ℕ, ◌^◌, ◌<◌, All, length}
 use Rattle.std.specs.Prelude.{slice_index}
 use Rattle.circuit_model.specs.Circuits.{values}
 use Rattle.session_slots.specs.Sessions.{gate}
-use Rattle.job_plan.specs.Plans.{session}
+use Rattle.plan_model.specs.Plans.{session}
 use Rattle.wire_tables.proofs.values.run_gates.Given as goal
 
 -- the values before gate t

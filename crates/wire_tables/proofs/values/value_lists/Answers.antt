@@ -7,8 +7,8 @@ use Rattle.list_laws.specs.Lists.{listed}
 use Rattle.list_laws.proofs.JoinedLists.{length-listed}
 use Rattle.circuit_model.specs.Circuits.{values}
 use Rattle.session_slots.specs.Sessions.{Session, gate, owners}
-use Rattle.job_plan.specs.InputWords.{session_words}
-use Rattle.job_plan.specs.Plans.{session}
+use Rattle.plan_model.specs.InputWords.{session_words}
+use Rattle.plan_model.specs.Plans.{session}
 use Rattle.share_world.specs.Worlds.{World, first_values, plain, values_before}
 use Rattle.wire_tables.specs.WireTables.{input_list}
 use Rattle.wire_tables.proofs.ListedRows.{row_read}

@@ -1,6 +1,6 @@
 use Rattle.std.proofs.Common.{◌≡◌, ℕ, List, []}
 use Rattle.list_laws.specs.Lists.{listed}
-use Rattle.job_plan.specs.InputWords.{session_words}
+use Rattle.plan_model.specs.InputWords.{session_words}
 use Rattle.wire_tables.specs.WireTables.{input_list}
 use Rattle.wire_tables.proofs.ValueLists.{ListsSoFar}
 use Rattle.wire_tables.proofs.values.value_lists.Given as goal

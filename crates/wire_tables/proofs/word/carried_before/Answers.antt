@@ -2,7 +2,7 @@ use Rattle.std.proofs.Common.{◌≡◌, ◌+◌, length, sym, ap, ◌∙◌, su
 use Rattle.std.proofs.lemmas.Bool.{eqb-true}
 use Rattle.session_slots.specs.declared.values.KeptWire.{KeptWire}
 use Rattle.session_slots.specs.Sessions.{Session}
-use Rattle.job_plan.specs.Plans.{session}
+use Rattle.plan_model.specs.Plans.{session}
 use Rattle.share_world.specs.Worlds.{World}
 use Rattle.wire_tables.specs.WireTables.{AreCarried, world_of}
 use Rattle.wire_tables.proofs.HandedOn.{carried_same}

@@ -2,7 +2,7 @@ use Rattle.std.proofs.Common.{◌≡◌, ◌<◌, ◌++◌, [], ◌∷◌, List,
 use Rattle.std.specs.Global.{Vec}
 use Rattle.std.proofs.lemmas.List.{append-nil, map_push, nil_from_length}
 use Rattle.std.proofs.lemmas.List.Elements.{All-head, All-tail}
-use Rattle.job_plan.specs.InputWords.{input_words, session_words}
+use Rattle.plan_model.specs.InputWords.{input_words, session_words}
 use Rattle.job_run.proofs.Moves.{one_more, first_is}
 use Rattle.worked_parts.proofs.FirstParts.{first, inputs_of, tapes_of}
 use Rattle.worked_parts.proofs.party_data.first_parts.Goals as goal

@@ -1,5 +1,5 @@
 use Rattle.std.proofs.Common.{◌≡◌, ◌<◌, ◌++◌, All, length, map}
-use Rattle.job_plan.specs.InputWords.{input_words}
+use Rattle.plan_model.specs.InputWords.{input_words}
 use Rattle.worked_parts.proofs.FirstParts.{first, inputs_of, tapes_of}
 use Rattle.worked_parts.proofs.party_data.first_parts.Given as goal
 

@@ -1,5 +1,5 @@
 use Rattle.std.proofs.Common.{ap, sym, subst, refl, ◌∙◌, arith}
-use Rattle.job_plan.specs.InputWords.{AreInputs}
+use Rattle.plan_model.specs.InputWords.{AreInputs}
 use Rattle.desk_laws.specs.Pieces.{ArePieces}
 use Rattle.core_world.specs.Moments.{IsRunOfPlan}
 use Rattle.job_run.specs.Pieces.{pieces_in}

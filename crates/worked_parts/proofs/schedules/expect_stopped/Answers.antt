@@ -1,5 +1,5 @@
 use Rattle.std.proofs.Common.{◌<◌, length, sym, subst, arith}
-use Rattle.job_plan.specs.Messages.{messages}
+use Rattle.plan_model.specs.Messages.{messages}
 use Rattle.worked_parts.proofs.OneProduct.{length-messages}
 use Rattle.worked_parts.proofs.schedules.expect_stopped.Goals as goal
 

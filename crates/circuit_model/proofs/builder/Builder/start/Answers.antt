@@ -18,7 +18,7 @@ invariant_of-result c =
     let many : c.count_wires.result ≡ sum c.args.inputs.items = c.count_wires.ensures ∙ ap sum c.deref-3.ensures.value in
     let told = λ (w : ℕ). c.in_ok-set.ensures.told w ∙ ap (λ n. is_set n [] w) many in
     start_sound c.args.ring c.args.gates c.args.wires (length c.in_ok-set.set.items) c.args.inputs.items c.args.outputs.items c.in_ok-gates_to_come.gates_to_come.items c.in_ok-set.set.items
-    (omega (arith, c.bits.ensures.is, c.bits.ensures.some)) (omega (arith, c.bits.ensures.is, c.bits.ensures.few)) s c.in_ok-set.ensures.long c.in_ok-gates_to_come.ensures.items told
+    (omega (arith, c.recall.ensures.some)) (omega (arith, c.recall.ensures.few)) s c.in_ok-set.ensures.long c.in_ok-gates_to_come.ensures.items told
 
 pub returns : goal.returns
 returns c =

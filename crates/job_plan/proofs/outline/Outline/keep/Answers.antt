@@ -2,8 +2,8 @@ use Rattle.std.proofs.Common.{ℕ, ◌<◌, List, length, sym, ap, subst, All, a
 use Rattle.std.proofs.lemmas.List.Elements.{All-from_get_or}
 use Rattle.session_slots.specs.Sessions.{Session, no_session, session_at}
 use Rattle.session_slots.specs.SoundSessions.{IsSoundSession}
-use Rattle.job_plan.specs.Keeping.{AllFit}
-use Rattle.job_plan.proofs.KeptSessions.{keeping_fits, length_keeping}
+use Rattle.session_slots.specs.Carries.{AllFit}
+use Rattle.session_slots.proofs.KeptSessions.{keeping_fits, length_keeping}
 use Rattle.job_plan.proofs.outline.Outline.keep.Goals as goal
 
 all_sound : (parties : ℕ) (sessions : List Session) → ((s : ℕ) → s < length sessions → IsSoundSession parties (session_at sessions s)) → All (IsSoundSession parties) sessions

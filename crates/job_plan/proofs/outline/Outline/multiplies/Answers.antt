@@ -1,7 +1,7 @@
 use Rattle.std.proofs.Common.{ap, ◌∙◌}
 use Rattle.secret_sharing.specs.Schemes.{has_pair}
-use Rattle.product_duty.specs.Duties.{scheme_of}
-use Rattle.job_plan.specs.Plans.{scheme}
+use Rattle.secret_sharing.specs.Duties.{scheme_of}
+use Rattle.plan_model.specs.Plans.{scheme}
 use Rattle.job_plan.proofs.outline.Outline.multiplies.Goals as goal
 
 pub returns : goal.returns

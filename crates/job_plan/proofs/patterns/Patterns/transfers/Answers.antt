@@ -1,7 +1,7 @@
 use Rattle.std.proofs.Common.{◌<◌, length, ap, sym, ◌∙◌, subst, arith}
 use Rattle.std.specs.Prelude.{slice_index_or}
 use Rattle.list_laws.proofs.JoinedLists.{length-listed, listed_at}
-use Rattle.job_plan.specs.Patterns.{deal_transfers, transfers, Occurs}
+use Rattle.plan_model.specs.Patterns.{deal_transfers, transfers, Occurs}
 use Rattle.job_plan.proofs.patterns.Patterns.transfers.Goals as goal
 
 pub index-requires : goal.index-requires

@@ -1,10 +1,10 @@
 use Rattle.std.proofs.Common.{◌≡◌, ◌+◌, length, ap, ◌∙◌, arith}
 use Rattle.std.specs.Prelude.{slice_index}
 use Rattle.list_laws.proofs.JoinedLists.{length-listed, listed_at}
-use Rattle.job_plan.specs.Plans.{slots}
-use Rattle.job_plan.specs.Firsts.{first, session_starts, starts_of}
-use Rattle.job_plan.proofs.SlotMessages.{first_within}
-use Rattle.job_plan.proofs.GrownLists.{row_is}
+use Rattle.plan_model.specs.Plans.{slots}
+use Rattle.plan_model.specs.Firsts.{first, session_starts, starts_of}
+use Rattle.plan_model.proofs.SlotMessages.{first_within}
+use Rattle.plan_model.proofs.GrownLists.{row_is}
 use Rattle.job_plan.proofs.plan.Plan.first.Goals as goal
 
 pub index-requires : goal.index-requires

@@ -1,7 +1,6 @@
 use Rattle.std.proofs.Common.{◌∙◌, sym, ap, subst}
-use Rattle.job_plan.specs.Plans.{KeepsCarried}
-use Rattle.job_plan.specs.Keeping.{keeping_plan}
-use Rattle.job_plan.proofs.KeptSessions.{keeps_carried}
+use Rattle.plan_model.specs.Plans.{KeepsCarried, keeping_plan}
+use Rattle.session_slots.proofs.KeptSessions.{keeps_carried}
 use Rattle.job_plan.proofs.plan.Plan.make.Goals as goal
 
 pub tables_of-requires-clause-kept : goal.tables_of-requires-clause-kept

@@ -1,15 +1,15 @@
 use Rattle.std.proofs.Common.{◌≡◌, ◌+◌, ◌-◌, ◌<◌, length, sym, ap, ◌∙◌, arith}
 use Rattle.std.specs.Prelude.{slice_index_or}
 use Rattle.std.proofs.lemmas.List.{length-map}
-use Rattle.job_plan.specs.Plans.{slot}
-use Rattle.job_plan.specs.Messages.{slot_messages}
-use Rattle.job_plan.specs.Numbers.{message, no_key}
-use Rattle.job_plan.specs.Patterns.{named}
-use Rattle.job_plan.specs.Firsts.{first, count}
-use Rattle.job_plan.proofs.RankSearch.{named_at}
-use Rattle.job_plan.proofs.SlotStarts.{first_next}
-use Rattle.job_plan.proofs.SlotMessages.{message_at}
-use Rattle.job_plan.proofs.MessageSlots.{share_within}
+use Rattle.plan_model.specs.Plans.{slot}
+use Rattle.plan_model.specs.Messages.{slot_messages}
+use Rattle.plan_model.specs.Numbers.{message, no_key}
+use Rattle.plan_model.specs.Patterns.{named}
+use Rattle.plan_model.specs.Firsts.{first, count}
+use Rattle.plan_model.proofs.RankSearch.{named_at}
+use Rattle.plan_model.proofs.SlotStarts.{first_next}
+use Rattle.plan_model.proofs.SlotMessages.{message_at}
+use Rattle.plan_model.proofs.MessageSlots.{share_within}
 use Rattle.job_plan.proofs.plan.Plan.message.Goals as goal
 
 pub returns : goal.returns

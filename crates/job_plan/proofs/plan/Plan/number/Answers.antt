@@ -1,15 +1,15 @@
 use Rattle.std.proofs.Common.{◌<◌, map, length, ap, sym, subst, ◌∙◌, arith}
 use Rattle.std.specs.Prelude.{slice_index_or, SomeIff}
 use Rattle.std.proofs.lemmas.List.{length-map}
-use Rattle.job_plan.specs.Plans.{slot, slots}
-use Rattle.job_plan.specs.Messages.{messages}
-use Rattle.job_plan.specs.Patterns.{named, order_of, pattern_at}
-use Rattle.job_plan.specs.Numbers.{number, no_key, rank, IsRising}
-use Rattle.job_plan.specs.Firsts.{count}
-use Rattle.job_plan.proofs.SlotMessages.{number_within}
-use Rattle.job_plan.proofs.MessageSlots.{is_there, number_is}
-use Rattle.job_plan.proofs.RisingRanks.{transfers_rise}
-use Rattle.job_plan.proofs.SlotPatterns.{slots_follow_patterns}
+use Rattle.plan_model.specs.Plans.{slot, slots}
+use Rattle.plan_model.specs.Messages.{messages}
+use Rattle.plan_model.specs.Patterns.{named, order_of, pattern_at}
+use Rattle.plan_model.specs.Numbers.{number, no_key, rank, IsRising}
+use Rattle.plan_model.specs.Firsts.{count}
+use Rattle.plan_model.proofs.SlotMessages.{number_within}
+use Rattle.plan_model.proofs.MessageSlots.{is_there, number_is}
+use Rattle.plan_model.proofs.RisingRanks.{transfers_rise}
+use Rattle.plan_model.proofs.SlotPatterns.{slots_follow_patterns}
 use Rattle.job_plan.proofs.plan.Plan.number.Goals as goal
 use Rattle.job_plan.proofs.plan.Plan.number.Goals.{then-key-sessions-via-then-key-sessions, then-key-sessions-via-else-key-sessions+then-key-slots}
 

@@ -1,7 +1,7 @@
 use Rattle.std.proofs.Common.{ℕ, List, ◌++◌, subst}
 use Rattle.mask_list.specs.Masks.{AreMasksOf}
 use Rattle.session_slots.specs.Sessions.{readers}
-use Rattle.job_plan.specs.Plans.{Plan, session}
+use Rattle.plan_model.specs.Plans.{Plan, session}
 use Rattle.job_plan.proofs.plan.Plan.readers.Goals as goal
 
 pub returns : goal.returns

@@ -1,5 +1,5 @@
 use Rattle.std.proofs.Common.{◌≡◌, ◌+◌, ◌-◌, length, arith}
-use Rattle.job_plan.proofs.SlotStarts.{some_session, last_end}
+use Rattle.plan_model.proofs.SlotStarts.{some_session, last_end}
 use Rattle.job_plan.proofs.plan.Plan.session_of.Goals as goal
 
 pub loop-s-init : goal.loop-s-init

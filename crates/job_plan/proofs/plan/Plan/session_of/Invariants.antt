@@ -1,6 +1,6 @@
 use Rattle.std.proofs.Common.{◌<◌, length}
-use Rattle.job_plan.specs.Plans.{slots}
-use Rattle.job_plan.specs.Firsts.{first}
+use Rattle.plan_model.specs.Plans.{slots}
+use Rattle.plan_model.specs.Firsts.{first}
 use Rattle.job_plan.proofs.plan.Plan.session_of.Given as goal
 
 -- the message stands before the end of session s

@@ -2,12 +2,12 @@ use Rattle.std.proofs.Common.{◌≡◌, ◌+◌, ◌-◌, ◌<◌, length, ap, 
 use Rattle.std.specs.Prelude.{slice_index}
 use Rattle.std.specs.List.Sorted.{IsNonDecreasing}
 use Rattle.list_laws.proofs.JoinedLists.{length-listed}
-use Rattle.job_plan.specs.Plans.{session, slots}
+use Rattle.plan_model.specs.Plans.{session, slots}
 use Rattle.session_slots.specs.SoundSessions.{IsSoundSession}
-use Rattle.job_plan.specs.Firsts.{session_starts, starts_of}
-use Rattle.job_plan.proofs.SlotStarts.{start_at, starts_long, starts_rise}
-use Rattle.job_plan.proofs.GrownLists.{row_is}
-use Rattle.job_plan.proofs.Slots.{few_slots}
+use Rattle.plan_model.specs.Firsts.{session_starts, starts_of}
+use Rattle.plan_model.proofs.SlotStarts.{start_at, starts_long, starts_rise}
+use Rattle.plan_model.proofs.GrownLists.{row_is}
+use Rattle.plan_model.proofs.Slots.{few_slots}
 use Rattle.job_plan.proofs.plan.Plan.slot_of.Goals as goal
 
 pub index-requires : goal.index-requires

@@ -1,8 +1,8 @@
 use Rattle.std.proofs.Common.{map, ap, sym, subst, ◌∙◌}
-use Rattle.job_plan.specs.Plans.{Plan, slot}
-use Rattle.job_plan.specs.Patterns.{named, transfers}
+use Rattle.plan_model.specs.Plans.{Plan, slot}
+use Rattle.plan_model.specs.Patterns.{named, transfers}
 use Rattle.job_plan.specs.Tables.{AreTransfers}
-use Rattle.job_plan.proofs.SlotPatterns.{slots_follow_patterns}
+use Rattle.plan_model.proofs.SlotPatterns.{slots_follow_patterns}
 use Rattle.job_plan.proofs.plan.Plan.slot_transfers.Goals as goal
 
 pub returns-clause-is : goal.returns-clause-is

@@ -1,5 +1,5 @@
 use Rattle.std.proofs.Common.{arith}
-use Rattle.job_plan.proofs.TapePlaces.{few_places}
+use Rattle.plan_model.proofs.TapePlaces.{few_places}
 use Rattle.job_plan.proofs.plan.Plan.summand_place.Goals as goal
 
 pub overflow_add-result : goal.overflow_add-result

@@ -1,10 +1,10 @@
 use Rattle.std.proofs.Common.{◌≡◌, ℕ, ◌+◌, ◌-◌, ◌*◌, ◌<◌, ◌≤◌, length, ap, ◌∙◌, arith}
-use Rattle.job_plan.specs.Plans.{Plan, place}
-use Rattle.job_plan.specs.Numbers.{deal_place, deal_slot}
-use Rattle.job_plan.specs.Sound.{IsSound}
-use Rattle.job_plan.proofs.TapePlaces.{few_places}
-use Rattle.job_plan.proofs.DealSlots.{slot_within, slot_of_deal}
-use Rattle.job_plan.proofs.DealMasks.{deal_place_is}
+use Rattle.plan_model.specs.Plans.{Plan, place}
+use Rattle.plan_model.specs.Numbers.{deal_place, deal_slot}
+use Rattle.plan_model.specs.Sound.{IsSound}
+use Rattle.plan_model.proofs.TapePlaces.{few_places}
+use Rattle.plan_model.proofs.DealSlots.{slot_within, slot_of_deal}
+use Rattle.plan_model.proofs.DealMasks.{deal_place_is}
 use Rattle.job_plan.proofs.plan.Plan.tape_place.Goals as goal
 
 few_words : (plan : Plan) (p s d : ℕ) → IsSound plan → p < plan.parties → s < length plan.sessions → deal_place plan p s d ≤ 1048576

@@ -2,10 +2,10 @@ use Rattle.std.proofs.Common.{◌≡◌, ◌+◌, length, ap, ◌∙◌, arith}
 use Rattle.std.specs.Prelude.{slice_index}
 use Rattle.list_laws.specs.Lists.{total}
 use Rattle.list_laws.proofs.JoinedLists.{length-listed}
-use Rattle.job_plan.specs.Plans.{words}
-use Rattle.job_plan.specs.Firsts.{word_starts, word_starts_of}
-use Rattle.job_plan.proofs.GrownLists.{row_is}
-use Rattle.job_plan.proofs.TapePlaces.{places_by_words}
+use Rattle.plan_model.specs.Plans.{words}
+use Rattle.plan_model.specs.Firsts.{word_starts, word_starts_of}
+use Rattle.plan_model.proofs.GrownLists.{row_is}
+use Rattle.plan_model.proofs.TapePlaces.{places_by_words}
 use Rattle.job_plan.proofs.plan.Plan.tape_start.Goals as goal
 
 pub index-requires : goal.index-requires

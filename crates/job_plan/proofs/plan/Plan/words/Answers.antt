@@ -1,5 +1,5 @@
 use Rattle.std.proofs.Common.{arith}
-use Rattle.job_plan.proofs.TapePlaces.{session_end}
+use Rattle.plan_model.proofs.TapePlaces.{session_end}
 use Rattle.job_plan.proofs.plan.Plan.words.Goals as goal
 
 pub overflow_sub-result : goal.overflow_sub-result

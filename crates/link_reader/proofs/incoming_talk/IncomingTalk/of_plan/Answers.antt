@@ -1,6 +1,6 @@
 use Rattle.std.proofs.Common.{rules, ◌≡◌, length, sym, ap, subst, arith}
 use Rattle.std.specs.Prelude.{vec_len}
-use Rattle.job_plan.specs.Messages.{messages}
+use Rattle.plan_model.specs.Messages.{messages}
 use Rattle.node_talk.specs.Talks.{goes, messages_between}
 use Rattle.link_reader.specs.Expected.{AllFitFrames}
 use Rattle.link_reader.proofs.ExpectedMessages.{at_most, all_fit}

@@ -1,8 +1,8 @@
 use Rattle.std.proofs.Common.{◌<◌, ◌^◌, length, sym, ap, ◌∙◌, subst, arith}
-use Rattle.job_plan.specs.Messages.{messages}
-use Rattle.job_plan.specs.Numbers.{message}
+use Rattle.plan_model.specs.Messages.{messages}
+use Rattle.plan_model.specs.Numbers.{message}
 use Rattle.message_board.specs.Plain.{plain_cell}
-use Rattle.job_plan.specs.declared.key.Key.{Key}
+use Rattle.plan_model.specs.declared.key.Key.{Key}
 use Rattle.frame_code.specs.Frames.{FitsFrame}
 use Rattle.node_run.specs.Mail.{Mail, MayPost, MayTake}
 use Rattle.link_reader.proofs.ExpectedMessages.{between_parties, fits_frame}

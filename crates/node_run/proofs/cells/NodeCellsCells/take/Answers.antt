@@ -2,7 +2,7 @@ use Rattle.std.proofs.Common.{◌≡◌, ap, sym, ◌∙◌, subst, length, Some
 use Rattle.std.specs.Prelude.{◌%◌, ◌^◌, slice_index}
 use Rattle.message_board.specs.Pairs.{Knows}
 use Rattle.message_board.specs.Plain.{plain_cell, plain_put}
-use Rattle.job_plan.specs.Numbers.{message}
+use Rattle.plan_model.specs.Numbers.{message}
 use Rattle.node_run.specs.Mail.{Mail, ComesFromPeer, MayTake, TakesWord, box_of}
 use Rattle.node_run.proofs.CellChanges.{missing_peer, still_may, words_stay, looked_may, looked_known, is_read, cells_are, with_word, word_kept, word_count, takes_found, no_word}
 use Rattle.node_run.proofs.cells.NodeCellsCells.take.Goals as goal

@@ -1,10 +1,10 @@
 use Rattle.std.proofs.Common.{◌≡◌, ◌+◌, ◌-◌, refl, sym, ap, ◌∙◌, arith}
-use Rattle.job_plan.specs.Firsts.{first}
-use Rattle.job_plan.specs.Numbers.{message}
-use Rattle.job_plan.specs.Patterns.{transfers}
-use Rattle.job_plan.proofs.SlotStarts.{first_next}
+use Rattle.plan_model.specs.Firsts.{first}
+use Rattle.plan_model.specs.Numbers.{message}
+use Rattle.plan_model.specs.Patterns.{transfers}
+use Rattle.plan_model.proofs.SlotStarts.{first_next}
 use Rattle.node_run.specs.Mail.{StandsIn}
-use Rattle.link_reader.proofs.ExpectedMessages.{count_is, message_is}
+use Rattle.plan_model.proofs.NamedTransfers.{count_is, message_is}
 use Rattle.node_run.proofs.last_slot.LastSlot.message.Goals as goal
 
 pub bounds-transfers-place : goal.bounds-transfers-place

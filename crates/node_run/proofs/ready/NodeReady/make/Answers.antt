@@ -1,7 +1,7 @@
 use Rattle.std.proofs.Common.{length, sym, ap, ap₂, ◌∙◌, subst}
 use Rattle.std.specs.Prelude.{None}
 use Rattle.std.proofs.lemmas.List.{length-replicate}
-use Rattle.job_plan.specs.Plans.{Plan}
+use Rattle.plan_model.specs.Plans.{Plan}
 use Rattle.message_board.specs.Plain.{CellContents, plain_cell}
 use Rattle.party_file.specs.Table.{PartyForm}
 use Rattle.node_run.specs.Ready.{NodePart, Kept, IsNodeReady, given_words}

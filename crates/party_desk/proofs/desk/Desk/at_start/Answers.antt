@@ -1,6 +1,6 @@
 use Rattle.std.proofs.Common.{ℕ, length, refl, subst, arith}
 use Rattle.list_laws.proofs.JoinedLists.{total_within}
-use Rattle.job_plan.specs.Plans.{Plan, words}
+use Rattle.plan_model.specs.Plans.{Plan, words}
 use Rattle.party_program.specs.ProgramPlaces.{IsPlace, IsProgram}
 use Rattle.party_program.specs.declared.program.Program.{Program}
 use Rattle.party_program.specs.declared.place.Place.{Place}

@@ -1,8 +1,8 @@
 use Rattle.std.proofs.Common.{length, sym, ap₂, ◌∙◌, subst}
 use Rattle.session_slots.specs.KeptWires.{sets_in}
 use Rattle.session_slots.specs.Sessions.{session_slot}
-use Rattle.job_plan.specs.Plans.{session}
-use Rattle.party_program.specs.States.{taking_slot, took_in}
+use Rattle.plan_model.specs.Plans.{session}
+use Rattle.program_model.specs.States.{taking_slot, took_in}
 use Rattle.party_desk.specs.Memories.{state_of, row_of, on_rows, Alike}
 use Rattle.party_desk.proofs.NamedSlots.{same_taken, taken_product}
 use Rattle.party_desk.proofs.RowStates.{added_on_rows, products_add_up}

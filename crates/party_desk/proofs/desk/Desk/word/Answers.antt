@@ -1,7 +1,7 @@
 use Rattle.std.proofs.Common.{◌<◌, sym, ap₂, ◌∙◌, subst}
 use Rattle.circuit_model.specs.declared.gate.Gate.{Gate}
 use Rattle.session_slots.specs.Sessions.{Session, product_in, row_names, session_slot}
-use Rattle.job_plan.specs.Plans.{session}
+use Rattle.plan_model.specs.Plans.{session}
 use Rattle.party_desk.proofs.NamedRows.{slot_within_rows}
 use Rattle.party_desk.proofs.NamedSlots.{product_slot}
 use Rattle.party_desk.proofs.desk.Desk.word.Goals as goal

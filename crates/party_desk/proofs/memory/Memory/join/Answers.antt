@@ -8,7 +8,7 @@ use Rattle.session_slots.specs.declared.side.Side.TheVariants.{First, Second}
 use Rattle.session_slots.specs.Sessions.{gate, mask_wire, product_in, product_wire, Session}
 use Rattle.session_slots.specs.Sessions.Slot.{Mask_product}
 use Rattle.session_slots.proofs.RowNames.{mask_within, product_named}
-use Rattle.job_plan.specs.Plans.{session}
+use Rattle.plan_model.specs.Plans.{session}
 use Rattle.party_desk.proofs.NamedRows.{gate_named}
 use Rattle.party_desk.proofs.memory.Memory.join.Goals as goal
 

@@ -4,7 +4,7 @@ use Rattle.job_session.specs.Rows.{IsRows}
 use Rattle.session_slots.specs.KeptWires.{live}
 use Rattle.session_slots.specs.Sessions.{Session, readers}
 use Rattle.job_session.specs.declared.row_table.RowTable.{RowTable}
-use Rattle.job_plan.specs.Plans.{session}
+use Rattle.plan_model.specs.Plans.{session}
 use Rattle.party_desk.proofs.reserved.Reserved.make.Goals as goal
 
 pub returns : goal.returns

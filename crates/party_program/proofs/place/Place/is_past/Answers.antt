@@ -1,7 +1,7 @@
 use Rattle.std.proofs.Common.{length, sym, ◌∙◌, arith}
 use Rattle.std.proofs.lemmas.Bool.{cases_lt, le-leb, lt-leb, eq-eqb, ne_eqb}
 use mathlib.Core.Logic.{inl, inr}
-use Rattle.party_program.specs.Programs.{program}
+use Rattle.program_model.specs.Programs.{program}
 use Rattle.party_program.proofs.ProgramPlaces.{before_end, past_is}
 use Rattle.party_program.proofs.place.Place.is_past.Goals as goal
 

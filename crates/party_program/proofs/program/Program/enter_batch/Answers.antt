@@ -1,8 +1,8 @@
 use Rattle.std.proofs.Common.{◌<◌, sym, subst, inl, arith}
 use Rattle.session_slots.specs.Sessions.{Session, session_slots}
 use Rattle.job_session.specs.Batches.{batch, IsBatch}
-use Rattle.job_plan.specs.Plans.{session, slots}
-use Rattle.party_program.specs.declared.half.Half.TheVariants.{Head}
+use Rattle.plan_model.specs.Plans.{session, slots}
+use Rattle.program_model.specs.declared.half.Half.TheVariants.{Head}
 use Rattle.party_program.proofs.FoundSteps.{told_count, told_few}
 use Rattle.party_program.proofs.program.Program.enter_batch.Goals as goal
 

@@ -1,6 +1,6 @@
 use Rattle.std.proofs.Common.{◌<◌, arith, sym}
-use Rattle.job_plan.specs.declared.pattern.Pattern.TheVariants.{Multiplied}
-use Rattle.job_plan.specs.Plans.{slots}
+use Rattle.plan_model.specs.declared.pattern.Pattern.TheVariants.{Multiplied}
+use Rattle.plan_model.specs.Plans.{slots}
 use Rattle.party_program.proofs.FoundSteps.{counted, few}
 use Rattle.party_program.proofs.program.Program.enter_product.Goals as goal
 

@@ -1,5 +1,5 @@
 use Rattle.std.proofs.Common.{◌<◌, arith}
-use Rattle.job_plan.specs.Plans.{slots}
+use Rattle.plan_model.specs.Plans.{slots}
 use Rattle.party_program.proofs.FoundSteps.{told_count, told_few}
 use Rattle.party_program.proofs.program.Program.enter_slot.Goals as goal
 

@@ -1,7 +1,7 @@
 use Rattle.std.proofs.Common.{◌≡◌, ◌-◌, ◌≤◌, ◌<◌}
 use Rattle.job_session.specs.Batches as batches
-use Rattle.job_plan.specs.Plans.{session, slots}
-use Rattle.party_program.specs.declared.half.Half.TheVariants.{Head}
+use Rattle.plan_model.specs.Plans.{session, slots}
+use Rattle.program_model.specs.declared.half.Half.TheVariants.{Head}
 use Rattle.party_program.specs.ProgramPlaces.{position_of}
 use Rattle.party_program.proofs.program.Program.first_from.Given as goal
 

@@ -1,5 +1,5 @@
 use Rattle.std.proofs.Common.{◌<◌, arith}
-use Rattle.job_plan.specs.Plans.{slots}
+use Rattle.plan_model.specs.Plans.{slots}
 use Rattle.party_program.proofs.ProgramPlaces.{position_more}
 use Rattle.party_program.proofs.FoundSteps.{occurs, as_many, counted, few}
 use Rattle.party_program.proofs.program.Program.first_in.Goals as goal

@@ -1,6 +1,6 @@
 use Rattle.std.proofs.Common.{sym, ◌∙◌, inl, inr}
 use Rattle.std.proofs.lemmas.Bool.{cases_lt}
-use Rattle.job_plan.specs.Plans.{slot, slots}
+use Rattle.plan_model.specs.Plans.{slot, slots}
 use Rattle.party_program.proofs.NamedSlots.{named_own, named_past}
 use Rattle.party_program.proofs.program.Program.first_named.Goals as goal
 

@@ -2,12 +2,12 @@ use Rattle.std.proofs.Common.{rules, ◌≡◌, ℕ, ◌+◌, ◌-◌, ◌<◌, 
 use Rattle.std.specs.Vec.{vec_len}
 use Rattle.std.proofs.lemmas.List.{get_or_default}
 use Rattle.session_slots.specs.SlotNumbers.{first_input}
-use Rattle.job_plan.specs.declared.pattern.Pattern.TheVariants.{Received}
-use Rattle.job_plan.specs.Plans.{Plan, session, slots}
-use Rattle.job_plan.specs.Patterns.{pattern_at}
-use Rattle.job_plan.proofs.PlanSchemes.{plan_is}
+use Rattle.plan_model.specs.declared.pattern.Pattern.TheVariants.{Received}
+use Rattle.plan_model.specs.Plans.{Plan, session, slots}
+use Rattle.plan_model.specs.Patterns.{pattern_at}
+use Rattle.plan_model.proofs.PlanSchemes.{plan_is}
 use Rattle.party_program.specs.declared.program.Program.{Program}
-use Rattle.party_program.specs.Programs.{first_named}
+use Rattle.program_model.specs.Programs.{first_named}
 use Rattle.party_program.specs.ProgramPlaces.{IsListed, IsProgram}
 use Rattle.party_program.proofs.NamedSlots.{found_number, found_named, wire_of}
 use Rattle.party_program.proofs.program.Program.first_received.Goals as goal

@@ -1,8 +1,8 @@
 use Rattle.std.proofs.Common.{◌≡◌, ℕ, ◌+◌, length, ◌∙◌, subst, arith}
-use Rattle.job_plan.specs.Plans.{Plan}
-use Rattle.party_program.specs.declared.half.Half.{Half}
-use Rattle.party_program.specs.declared.half.Half.TheVariants.{Head, Tail}
-use Rattle.party_program.specs.Programs.{half_program}
+use Rattle.plan_model.specs.Plans.{Plan}
+use Rattle.program_model.specs.declared.half.Half.{Half}
+use Rattle.program_model.specs.declared.half.Half.TheVariants.{Head, Tail}
+use Rattle.program_model.specs.Programs.{half_program}
 use Rattle.party_program.specs.ProgramPlaces.{position_of, IsPlace}
 use Rattle.party_program.proofs.ProgramPlaces.{before_more, count_at, in_slot}
 use Rattle.party_program.proofs.program.Program.go_on.Goals as goal

@@ -1,16 +1,16 @@
 use Rattle.std.proofs.Common.{◌≡◌, ℕ, zero, suc, ◌<◌, ◌-◌, ◌^◌, List, length, refl, sym, ap, ◌∙◌, subst, arith}
 use Rattle.std.specs.Prelude.{slice_index_or}
-use Rattle.job_plan.specs.Plans.{Plan, slots}
-use Rattle.job_plan.specs.Numbers.{deals_before}
-use Rattle.job_plan.specs.Patterns.{pattern_at}
-use Rattle.job_plan.specs.declared.pattern.Pattern.TheVariants.{Silent}
-use Rattle.party_program.specs.declared.half.Half.{Half}
-use Rattle.party_program.specs.declared.half.Half.TheVariants.{Head, Tail}
+use Rattle.plan_model.specs.Plans.{Plan, slots}
+use Rattle.plan_model.specs.Numbers.{deals_before}
+use Rattle.plan_model.specs.Patterns.{pattern_at}
+use Rattle.plan_model.specs.declared.pattern.Pattern.TheVariants.{Silent}
+use Rattle.program_model.specs.declared.half.Half.{Half}
+use Rattle.program_model.specs.declared.half.Half.TheVariants.{Head, Tail}
 use Rattle.party_program.specs.declared.place.Place.{Place}
 use Rattle.party_program.specs.declared.program.Program.{Program}
 use Rattle.party_program.specs.declared.step.Step.{Step}
 use Rattle.party_program.specs.declared.step.Step.TheVariants.{Draw, Linear}
-use Rattle.party_program.specs.Programs.{first_named, program, at}
+use Rattle.program_model.specs.Programs.{first_named, program, at}
 use Rattle.party_program.specs.PartySteps.{steps, placed, IsPlaced}
 use Rattle.party_program.specs.ProgramPlaces.{IsPlace, IsProgram}
 use Rattle.party_program.proofs.ProgramPlaces.{in_slot, ends_there, instruction_is}

@@ -2,8 +2,8 @@ use Rattle.std.proofs.Common.{rules, ◌≡◌, length, ap, ◌∙◌, arith}
 use Rattle.std.specs.Prelude.{slice_index_or}
 use Rattle.std.specs.Vec.{vec_len}
 use Rattle.list_laws.proofs.JoinedLists.{length-listed, listed_at}
-use Rattle.job_plan.specs.Plans.{slots}
-use Rattle.job_plan.specs.Numbers.{deals_before}
+use Rattle.plan_model.specs.Plans.{slots}
+use Rattle.plan_model.specs.Numbers.{deals_before}
 use Rattle.party_program.specs.PartySteps.{placed}
 use Rattle.party_program.proofs.program.Program.placed.Goals as goal
 

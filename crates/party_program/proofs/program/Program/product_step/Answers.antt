@@ -1,9 +1,9 @@
 use Rattle.std.proofs.Common.{◌≡◌, ℕ, ◌-◌, ◌<◌, ◌^◌, sym, ap, ◌∙◌, subst}
 use Rattle.std.specs.Prelude.{slice_index_or}
-use Rattle.job_plan.specs.declared.pattern.Pattern.TheVariants.{Multiplied}
-use Rattle.job_plan.specs.Numbers.{deals_before}
-use Rattle.job_plan.specs.Patterns.{pattern_at}
-use Rattle.job_plan.specs.Plans.{Plan, slots}
+use Rattle.plan_model.specs.declared.pattern.Pattern.TheVariants.{Multiplied}
+use Rattle.plan_model.specs.Numbers.{deals_before}
+use Rattle.plan_model.specs.Patterns.{pattern_at}
+use Rattle.plan_model.specs.Plans.{Plan, slots}
 use Rattle.party_program.specs.declared.place.Place.{Place}
 use Rattle.party_program.specs.declared.program.Program.{Program}
 use Rattle.party_program.specs.declared.step.Step.TheVariants.{Draw}

@@ -2,7 +2,7 @@ use Rattle.std.proofs.Common.{rules, ◌≡◌, ◌<◌, length, ap, ◌∙◌, 
 use Rattle.std.specs.Prelude.{slice_index_or}
 use Rattle.std.specs.Vec.{vec_len}
 use Rattle.list_laws.proofs.JoinedLists.{length-listed, listed_at}
-use Rattle.job_plan.specs.declared.pattern.Pattern.TheVariants.{Dealt}
+use Rattle.plan_model.specs.declared.pattern.Pattern.TheVariants.{Dealt}
 use Rattle.party_program.specs.PartySteps.{steps}
 use Rattle.party_program.proofs.step_table.StepTable.deal.Goals as goal
 

@@ -1,6 +1,6 @@
 use Rattle.std.proofs.Common.{ℕ, List, map, ap, ◌∙◌, subst}
 use Rattle.std.specs.List.{Contains}
-use Rattle.job_plan.specs.declared.pattern.Pattern.TheVariants.{Opened}
+use Rattle.plan_model.specs.declared.pattern.Pattern.TheVariants.{Opened}
 use Rattle.party_program.specs.PartySteps.{steps}
 use Rattle.party_program.proofs.OccurringPatterns.{opening_occurs}
 use Rattle.party_program.proofs.step_table.StepTable.make.Goals as goal

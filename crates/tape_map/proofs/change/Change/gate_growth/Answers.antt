@@ -5,8 +5,8 @@ use Rattle.circuit_model.specs.declared.gate.Gate.{Gate}
 use Rattle.session_slots.specs.Sessions.{Session, gate}
 use Rattle.session_slots.specs.SoundSessions.{IsSoundSession}
 use Rattle.session_slots.proofs.RowNames.{wires_named}
-use Rattle.job_plan.specs.InputWords.{session_words}
-use Rattle.job_plan.specs.Plans.{Plan, session}
+use Rattle.plan_model.specs.InputWords.{session_words}
+use Rattle.plan_model.specs.Plans.{Plan, session}
 use Rattle.wire_tables.proofs.ListedRows.{row_read}
 use Rattle.tape_map.specs.declared.change.Change.{Change}
 use Rattle.tape_map.specs.Changes.{Fits, product_growth}

@@ -7,7 +7,7 @@ use Rattle.circuit_model.specs.Circuits.{is_product}
 use Rattle.session_slots.specs.declared.side.Side.{Side}
 use Rattle.session_slots.specs.declared.side.Side.TheVariants.{First, Second}
 use Rattle.session_slots.specs.Sessions.{Session, gate, is_prepared, mask_wire}
-use Rattle.job_plan.specs.Plans.{Plan, session}
+use Rattle.plan_model.specs.Plans.{Plan, session}
 use Rattle.wire_tables.proofs.ListedRows.{row_read}
 use Rattle.tape_map.specs.declared.change.Change.{Change}
 use Rattle.tape_map.specs.Changes.{Fits, masks_of, product_growth}

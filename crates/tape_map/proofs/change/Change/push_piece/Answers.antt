@@ -5,7 +5,7 @@ use Rattle.list_laws.specs.Lists.{joined, listed}
 use Rattle.list_laws.proofs.JoinedLists.{joined_step, joined_step_none, total_within}
 use Rattle.session_slots.specs.Sessions.{session_slot}
 use Rattle.session_slots.specs.SoundSessions.{slot_of_kind}
-use Rattle.job_plan.specs.Plans.{slot, slots, words_in, place}
+use Rattle.plan_model.specs.Plans.{slot, slots, words_in, place}
 use Rattle.tape_map.specs.TapeMaps.{hidden_word, raised}
 use Rattle.tape_map.specs.Changes.{growth_by, grown_words}
 use Rattle.tape_map.proofs.ChangedPieces.{grown_long, pushed_like}

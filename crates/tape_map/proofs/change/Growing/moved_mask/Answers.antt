@@ -3,7 +3,7 @@ use Rattle.session_slots.specs.declared.side.Side.{Side}
 use Rattle.session_slots.specs.declared.side.Side.TheVariants.{First, Second}
 use Rattle.session_slots.specs.Sessions.{Session, gate, operand}
 use Rattle.session_slots.specs.SoundSessions.{IsWired}
-use Rattle.job_plan.specs.Plans.{session}
+use Rattle.plan_model.specs.Plans.{session}
 use Rattle.tape_map.proofs.change.Growing.moved_mask.Goals as goal
 
 within : (x : Session) → IsWired x → (t : ℕ) (side : Side) → t < length x.gates → operand (gate x t) side < x.wires

@@ -1,6 +1,6 @@
 use Rattle.std.proofs.Common.{◌≡◌}
 use Rattle.list_laws.specs.Lists.{listed}
-use Rattle.job_plan.specs.InputWords.{session_words}
+use Rattle.plan_model.specs.InputWords.{session_words}
 use Rattle.tape_map.specs.Changes.{grown_mask}
 use Rattle.tape_map.proofs.change.Growing.moved_masks.Given as goal
 

@@ -1,7 +1,7 @@
 use Rattle.std.proofs.Common.{◌≡◌, []}
 use Rattle.std.specs.Prelude.{slice_index, slice_index_or}
 use Rattle.list_laws.specs.Lists.{listed}
-use Rattle.job_plan.specs.InputWords.{session_words}
+use Rattle.plan_model.specs.InputWords.{session_words}
 use Rattle.tape_map.specs.Changes.{grown_row}
 use Rattle.tape_map.proofs.change.Growing.moved_rows.Given as goal
 

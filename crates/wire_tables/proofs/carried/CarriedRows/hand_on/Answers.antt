@@ -4,8 +4,8 @@ use Rattle.std.specs.Global.{Vec}
 use Rattle.std.proofs.lemmas.List.{get_or-map, length-map, map-set}
 use Rattle.session_slots.specs.declared.values.KeptWire.{KeptWire}
 use Rattle.session_slots.specs.Sessions.{Session, kept_wire, no_kept, output_wire}
-use Rattle.job_plan.specs.InputWords.{input_words, session_words}
-use Rattle.job_plan.specs.Plans.{session}
+use Rattle.plan_model.specs.InputWords.{input_words, session_words}
+use Rattle.plan_model.specs.Plans.{session}
 use Rattle.wire_tables.specs.WireTables.{row_at}
 use Rattle.wire_tables.proofs.HandedOn.{SoFar, none_yet, one_more, all_handed_on, is_kept_at}
 use Rattle.wire_tables.proofs.ListedRows.{item_set, row_read}

@@ -1,7 +1,7 @@
 use Rattle.std.proofs.Common.{◌≡◌, [], length}
 use Rattle.std.specs.Prelude.{slice_index_or}
-use Rattle.job_plan.specs.InputWords.{input_words, session_words}
-use Rattle.job_plan.specs.Plans.{KeepsCarried}
+use Rattle.plan_model.specs.InputWords.{input_words, session_words}
+use Rattle.plan_model.specs.Plans.{KeepsCarried}
 use Rattle.wire_tables.specs.WireTables.{row_at}
 use Rattle.wire_tables.proofs.HandedOn.{SoFar}
 use Rattle.wire_tables.proofs.carried.CarriedRows.hand_on.Given as goal

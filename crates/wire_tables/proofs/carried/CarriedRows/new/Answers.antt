@@ -1,8 +1,8 @@
 use Rattle.std.proofs.Common.{ℕ, length, ap, ◌∙◌, arith}
 use Rattle.std.specs.Global.{Vec}
 use Rattle.std.proofs.lemmas.List.{length-map}
-use Rattle.job_plan.specs.InputWords.{input_words, session_words}
-use Rattle.job_plan.specs.Plans.{Plan}
+use Rattle.plan_model.specs.InputWords.{input_words, session_words}
+use Rattle.plan_model.specs.Plans.{Plan}
 use Rattle.wire_tables.proofs.HandedOn.{carried_first}
 use Rattle.wire_tables.proofs.carried.CarriedRows.new.Goals as goal
 

@@ -2,8 +2,8 @@ use Rattle.std.proofs.Common.{◌≡◌, ℕ, ◌+◌, length, set, sym, ap, ◌
 use Rattle.std.specs.Global.{Vec}
 use Rattle.std.proofs.lemmas.List.{with_items_is}
 use Rattle.session_slots.proofs.RowNames.{wires_named}
-use Rattle.job_plan.specs.InputWords.{session_words}
-use Rattle.job_plan.specs.Plans.{session}
+use Rattle.plan_model.specs.InputWords.{session_words}
+use Rattle.plan_model.specs.Plans.{session}
 use Rattle.share_world.specs.Worlds.{World}
 use Rattle.wire_tables.specs.Places.{ArePlaces}
 use Rattle.wire_tables.specs.Steps.{AreRows, Sets}

@@ -1,0 +1,9 @@
+pub mod Plans
+pub mod Messages
+pub mod Patterns
+pub mod Numbers
+pub mod Firsts
+pub mod Sound
+pub mod Multiply
+pub mod Tallies
+pub mod InputWords

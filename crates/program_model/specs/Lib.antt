@@ -1,0 +1,5 @@
+pub mod Programs
+pub mod States
+pub mod Along
+pub mod Proper
+pub mod GivenData
