@@ -1,28 +1,31 @@
 -- The tables of a session make the change of its tapes.
-use Rattle.std.proofs.Common.{◌≡◌, ℕ, ◌+◌, ◌-◌, ◌%◌, ◌^◌, ◌<◌, ◌++◌, true, false, nat_eq, nat_lt, All, List, [], length, refl, sym, ap, ap₂, ◌∙◌, subst, arith, inl, inr, pow_pos}
+use Rattle.std.proofs.Common.{◌≡◌, ℕ, zero, suc, ◌+◌, ◌-◌, ◌*◌, ◌%◌, ◌^◌, ◌<◌, ◌++◌, true, false, nat_eq, nat_lt, All, List, [], ◌∷◌, length, refl, sym, ap, ap₂, ◌∙◌, subst, arith, inl, inr, pow_pos}
 use Rattle.std.specs.Prelude.{slice_index, slice_index_or}
+use Rattle.std.specs.List.{AllByRecursion}
 use Rattle.std.specs.Global.{Vec}
-use Rattle.std.proofs.lemmas.List.{length-append, length-map, get_or_default}
+use Rattle.std.proofs.lemmas.List.{length-append, length-map, get_or-append-add, get_or_default}
 use Rattle.std.proofs.Math.Nat.{mod-eq_of_lt, mod-lt}
-use Rattle.std.proofs.Math.ListN.{get_or-eq_default}
-use Rattle.std.proofs.lemmas.Bool.{cases_Bool, cases_lt, cond-true, cond-false, lt-ltb, and_parts, both_ways, eqb-true}
-use Rattle.list_laws.specs.Lists.{total, joined, listed}
+use Rattle.std.proofs.Math.ListN.{get_or-append, get_or-eq_default}
+use Rattle.std.proofs.Math.Seq.{get_or-append_right}
+use Rattle.std.proofs.lemmas.Bool.{cases_Bool, cases_lt, cond-true, cond-false, cond_both, lt-ltb, and_parts, both_ways, eqb-true}
+use Rattle.list_laws.specs.Lists.{total, joined, listed, only_if}
 use Rattle.list_laws.proofs.Totals.{total_eq, total_more}
-use Rattle.list_laws.proofs.JoinedLists.{length-joined, length-listed, listed_at, listed_eq, joined_eq}
+use Rattle.list_laws.proofs.JoinedLists.{length-joined, length-listed, listed_at, listed_eq, joined_at, joined_eq, every_append, every_at, every_joined, every_listed, every_only_if}
 use Rattle.mpc_ring.specs.Differences.{difference}
 use Rattle.circuit_model.specs.Circuits.{is_product}
 use Rattle.circuit_model.proofs.SetAt.{set_there}
-use Rattle.secret_sharing.specs.Schemes.{summands}
+use Rattle.secret_sharing.specs.Schemes.{own_product, summands}
 use Rattle.party_set.specs.Parties.{has_party}
 use Rattle.session_slots.specs.declared.side.Side.{Side}
 use Rattle.session_slots.specs.declared.side.Side.TheVariants.{First, Second}
 use Rattle.session_slots.specs.declared.source.Source.{Source}
 use Rattle.session_slots.specs.declared.source.Source.TheVariants.{Given, Earlier}
-use Rattle.session_slots.specs.Sessions.{Session, Slot, given_by, owners, source, gate, operand, is_direct, is_prepared, mask_wire}
+use Rattle.session_slots.specs.Sessions.{Session, Slot, content, given_by, owners, source, gate, operand, is_direct, is_prepared, mask_wire, row_names}
 use Rattle.session_slots.specs.Sessions.Slot.{Input, At_gate, Output, Mask, Mask_product, Masked, Kept}
 use Rattle.session_slots.specs.SoundSessions.{Inside}
+use Rattle.session_slots.proofs.RowNames.{direct_names, mask_within, wires_named}
 use Rattle.session_slots.proofs.SessionSlots.{slots_are_numbered}
-use Rattle.plan_model.specs.Plans.{Plan, session, slot, slots, words, words_in, place, deals_in}
+use Rattle.plan_model.specs.Plans.{Plan, scheme, session, slot, slots, words, words_in, place, deals_in}
 use Rattle.plan_model.specs.InputWords.{AreInputs, session_words}
 use Rattle.plan_model.specs.Sound.{IsSound}
 use Rattle.plan_model.proofs.Slots.{at_its_number}
@@ -31,13 +34,13 @@ use Rattle.share_world.specs.Solutions.{GatesInOrder}
 use Rattle.share_world.specs.Worlds.{World, input_of, source_value, tape_word, run_of, value_before, values_before, plain, mask}
 use Rattle.share_world.proofs.SmallWords.{small_words}
 use Rattle.share_world.proofs.Settled.{in_order, settled, product_settled}
-use Rattle.wire_tables.specs.WireTables.{summand_rows, value_list, value_lists}
+use Rattle.wire_tables.specs.WireTables.{prepared_rows, summand_row, summand_rows, value_list, value_lists}
 use Rattle.wire_tables.proofs.ValueLists.{small_plain}
-use Rattle.wire_tables.specs.Steps.{IsRow}
+use Rattle.wire_tables.specs.Steps.{IsRow, last_row}
 use Rattle.share_world.proofs.LocalWords.{own_alike}
-use Rattle.wire_tables.proofs.TableRows.{rows_named, wire_last, mask_last, wire_whole, mask_whole}
-use Rattle.tape_map.specs.TapeMaps.{hidden, hidden_word, growth, with_inputs, delta, raised, moved_summands, moved_mask, moved_words, piece_map, tape_of}
-use Rattle.tape_map.specs.Changes.{grown_row, grown_rows, grown_mask, grown_masks, masks_of, IsTable, AreGrowths, AreWireNumbers, AreNamedRows, Fits, growth_in, growth_by, grown_words, grown_piece}
+use Rattle.wire_tables.proofs.TableRows.{rows_named, wire_last, mask_last, wire_whole, mask_whole, product_whole}
+use Rattle.tape_map.specs.TapeMaps.{hidden, hidden_word, growth, with_inputs, delta, raised, moved_words, piece_map, tape_of}
+use Rattle.tape_map.specs.Changes.{mask_growths, row_growths, grown_rows, IsTable, AreNumbers, AreWireNumbers, ReadsWhole, AreNamedRows, Fits, product_growth, growth_in, growth_by, grown_words, grown_piece}
 use Rattle.tape_map.specs.declared.change.Change.{Change}
 use Rattle.tape_map.proofs.RaisedDeals.{raised_eq}
 
@@ -58,86 +61,77 @@ raised_by_none q g x i l =
       | inr e ↦ cond-false (nat_eq i g) _ _ e
     ]
 
--- ---- the tables of a change
+-- ---- by how much rows grow
 
--- a row of a wire
-pub moved_at : (plan : Plan) (s g : ℕ) (more : List ℕ) (rows : List (List ℕ)) (v : ℕ) → v < (session plan s).wires
-    → slice_index_or (grown_rows plan s g more rows) v [] ≡ grown_row plan g (slice_index more v) (slice_index_or rows v [])
-moved_at plan s g more rows v l = listed_at (session plan s).wires _ v [] l
+module _ (x : Session) (more : List ℕ) (long : length more ≡ x.wires) where
+  abbrev of_masks : List ℕ
+  of_masks = joined (length x.gates) (mask_growths x more)
 
--- and of a mask
-pub moved_mask_at : (plan : Plan) (s g : ℕ) (more : List ℕ) (rows : List (List ℕ)) (side : Side) (t : ℕ) → t < length (session plan s).gates
-    → is_prepared (session plan s) t ≡ true
-    → slice_index_or (grown_masks plan s g more rows side) t []
-    ≡ grown_row plan g (slice_index more (operand (gate (session plan s) t) side)) (slice_index_or rows (mask_wire (session plan s) t side) [])
-moved_mask_at plan s g more rows side t l e =
-    let x = session plan s in
-    let both = and_parts x.prepared (is_product (gate x t).operation) e in
-    ap (λ xs. slice_index_or xs t []) (cond-true x.prepared (listed (length x.gates) (grown_mask plan s g more rows side)) [] both.0)
-    ∙ listed_at (length x.gates) (grown_mask plan s g more rows side) t [] l
-    ∙ cond-true (is_product (gate x t).operation) _ [] both.1
+  abbrev behind : List ℕ
+  behind = only_if x.prepared of_masks
 
--- the tables as they were made, with what is known of their parts
-pub made_table : (plan : Plan) (s g : ℕ) (more : List ℕ) (rows : List (List ℕ)) (c : Change) → c.session ≡ s → c.hidden ≡ g → c.growths.items ≡ more → c.rows ≡ rows
-    → session_words c.moved.items ≡ grown_rows plan s c.hidden c.growths.items c.rows
-    → session_words c.first_masks.items ≡ grown_masks plan s c.hidden c.growths.items c.rows First
-    → session_words c.second_masks.items ≡ grown_masks plan s c.hidden c.growths.items c.rows Second → IsTable plan s g more rows c
-made_table plan s g more rows c at hidden_is grown table moved_is first second = record {
-  at = at;
-  hidden_summand = hidden_is;
-  growths = grown;
-  rows = table;
-  moved = moved_is ∙ ap₂ (grown_rows plan s c.hidden) grown table ∙ ap (λ n. grown_rows plan s n more rows) hidden_is;
-  masks = masks;
-}
+  threes : (t : ℕ) → total t (λ u. length (mask_growths x more u)) ≡ 3 * t
+  threes zero = omega arith
+  threes (suc t) = (let before = threes t in omega (arith, before))
+
+  -- a wire's row as the wire
+  pub wire_grows : (v : ℕ) → v < x.wires → slice_index (row_growths x more) v ≡ slice_index more v
+  wire_grows v l = get_or-append more behind 0 v (omega (arith, long, l))
+
+  -- a mask's as the wire that it masks
+  behind_grows : (t r : ℕ) → t < length x.gates → x.prepared ≡ true → r < 3 → slice_index (row_growths x more) (x.wires + (3 * t + r)) ≡ slice_index (mask_growths x more t) r
+  behind_grows t r l e lr =
+      ap (λ n. slice_index (row_growths x more) (n + (3 * t + r))) (sym long)
+      ∙ get_or-append-add more behind (3 * t + r) 0
+      ∙ ap (λ xs. slice_index xs (3 * t + r)) (cond-true x.prepared of_masks [] e)
+      ∙ ap (λ n. slice_index of_masks (n + r)) (sym (threes t))
+      ∙ joined_at (length x.gates) t (mask_growths x more) r l lr
+
+  pub mask_grows : (t : ℕ) (side : Side) → t < length x.gates → x.prepared ≡ true → slice_index (row_growths x more) (mask_wire x t side) ≡ slice_index more (operand (gate x t) side)
+  mask_grows t First l e = ap (slice_index (row_growths x more)) (omega arith) ∙ behind_grows t 0 l e (omega arith)
+  mask_grows t Second l e = ap (slice_index (row_growths x more)) (omega arith) ∙ behind_grows t 1 l e (omega arith)
+
+  names_long : length (row_growths x more) ≡ row_names x
+  names_long = elim (cases_Bool x.prepared) [
+    | inl e ↦
+        let all = ap length (cond-true x.prepared of_masks [] e) ∙ length-joined (length x.gates) (mask_growths x more) ∙ threes (length x.gates) in
+        omega (arith, length-append more behind, long, all, cond-true x.prepared (x.wires + 3 * length x.gates) x.wires e)
+    | inr e ↦
+        let none = ap length (cond-false x.prepared of_masks [] e) in
+        omega (arith, length-append more behind, long, none, direct_names x e)
+  ]
+
+-- numbers of the ring
+pub row_numbers : (plan : Plan) (x : Session) (more : List ℕ) → AreNumbers plan x.wires more → AreNumbers plan (row_names x) (row_growths x more)
+row_numbers plan x more fit = record { long = names_long x more fit.long; below = below }
   where
-    with_known : (side : Side) → grown_masks plan s c.hidden c.growths.items c.rows side ≡ grown_masks plan s g more rows side
-    with_known side = ap₂ (λ more rows. grown_masks plan s c.hidden more rows side) grown table ∙ ap (λ n. grown_masks plan s n more rows side) hidden_is
+    small_behind : AllByRecursion (λ d. d < 2 ^ plan.bits) (behind x more fit.long)
+    small_behind = every_only_if (λ d. d < 2 ^ plan.bits) x.prepared _ (λ e. every_joined (λ d. d < 2 ^ plan.bits) (length x.gates) (mask_growths x more)
+        (λ t l. (fit.below (gate x t).first, (fit.below (gate x t).second, (pow_pos plan.bits, tt)))))
 
-    masks : (side : Side) → masks_of c side ≡ grown_masks plan s g more rows side
-    masks First = first ∙ with_known First
-    masks Second = second ∙ with_known Second
+    below : (i : ℕ) → slice_index (row_growths x more) i < 2 ^ plan.bits
+    below i = elim (cases_lt i (length more)) [
+      | inl l ↦ subst (λ d. d < 2 ^ plan.bits) (sym (get_or-append more (behind x more fit.long) 0 i l)) (fit.below i)
+      | inr past ↦
+          subst (λ d. d < 2 ^ plan.bits) (sym (get_or-append_right more (behind x more fit.long) i 0 past))
+          (every_at (λ d. d < 2 ^ plan.bits) (behind x more fit.long) (i - length more) (pow_pos plan.bits) small_behind)
+    ]
 
--- by its own tables
-own_tables : (plan : Plan) (s g : ℕ) (more : List ℕ) (rows : List (List ℕ)) (c : Change) → IsTable plan s g more rows c
-    → IsTable plan c.session c.hidden c.growths.items c.rows c
-own_tables plan s g more rows c h =
-    subst (λ z. IsTable plan z c.hidden c.growths.items c.rows c) (sym h.at)
-    (subst (λ z. IsTable plan s z c.growths.items c.rows c) (sym h.hidden_summand)
-    (subst (λ z. IsTable plan s g z c.rows c) (sym h.growths)
-    (subst (λ z. IsTable plan s g more z c) (sym h.rows) h)))
-
--- ---- their sizes
+-- ---- the moved rows
 
 module _ (plan : Plan) (c : Change) (fits : Fits plan c) where
   abbrev of_plan : Session
   of_plan = session plan c.session
 
-  pub moved_count : length c.moved.items ≡ of_plan.wires
+  pub moved_count : length c.moved.items ≡ row_names of_plan
   moved_count =
       sym (length-map c.moved.items (λ (row : Vec ℕ). row.items))
-      ∙ ap length fits.tables.moved ∙ length-listed of_plan.wires _
+      ∙ ap length fits.moved ∙ length-listed (row_names of_plan) _
 
-  pub moved_wide : (v : ℕ) → v < of_plan.wires → length (slice_index_or (session_words c.moved.items) v []) ≡ length plan.groups
-  moved_wide v l =
-      ap (λ rows. length (slice_index_or rows v [])) fits.tables.moved
-      ∙ ap length (moved_at plan c.session c.hidden c.growths.items c.rows v l) ∙ length-listed (length plan.groups) _
-
-  masks_count : (side : Side) → of_plan.prepared ≡ true → length (masks_of c side) ≡ length of_plan.gates
-  masks_count side e =
-      ap length (fits.tables.masks side ∙ cond-true of_plan.prepared _ [] e) ∙ length-listed (length of_plan.gates) _
-
-  pub first_count : of_plan.prepared ≡ true → length c.first_masks.items ≡ length of_plan.gates
-  first_count e = sym (length-map c.first_masks.items (λ (row : Vec ℕ). row.items)) ∙ masks_count First e
-
-  pub second_count : of_plan.prepared ≡ true → length c.second_masks.items ≡ length of_plan.gates
-  second_count e = sym (length-map c.second_masks.items (λ (row : Vec ℕ). row.items)) ∙ masks_count Second e
-
-  pub mask_wide : (t : ℕ) (side : Side) → t < length of_plan.gates → is_prepared of_plan t ≡ true
-      → length (slice_index_or (masks_of c side) t []) ≡ length plan.groups
-  mask_wide t side l e =
-      ap (λ rows. length (slice_index_or rows t [])) (fits.tables.masks side)
-      ∙ ap length (moved_mask_at plan c.session c.hidden c.growths.items c.rows side t l e) ∙ length-listed (length plan.groups) _
+  pub moved_wide : (name : ℕ) → name < row_names of_plan → length (slice_index_or (session_words c.moved.items) name []) ≡ length (slice_index_or c.rows name [])
+  moved_wide name l =
+      ap (λ rows. length (slice_index_or rows name [])) fits.moved
+      ∙ ap length (listed_at (row_names of_plan) _ name [] l) ∙ length-listed (length (slice_index_or c.rows name [])) _
 
 -- the words that are pushed are those of the definition
 pub pushed_like : (tape : List ℕ) (n n' q q' g g' d d' a a' : ℕ) → n ≡ n' → q ≡ q' → g ≡ g' → d ≡ d' → a ≡ a'
@@ -155,7 +149,7 @@ growths w other s = listed (session w.plan s).wires (delta w other s (length (se
 
 -- the tables are those of session s of a world and of other inputs
 abbrev pub IsChange : World → List (List (List ℕ)) → ℕ → ℕ → Change → Type 0
-IsChange w other group s c = IsTable w.plan s (hidden w.plan group) (growths w other s) (summand_rows w s) c
+IsChange w other group s c = IsTable w.plan s (hidden w.plan group) (row_growths (session w.plan s) (growths w other s)) (summand_rows w s) c
 
 -- the source of a wire that party p gives
 pub given_is : (p : ℕ) (from : Source) → given_by p from ≡ true → from ≡ Given p
@@ -163,20 +157,14 @@ given_is p (Given q) e = ap (λ (n : ℕ). Given n) (eqb-true q p e)
 given_is p (Earlier r c i) e = absurd (both_ways false refl e)
 
 -- numbers of the ring, one for each wire
-pub listed_fit : (plan : Plan) (s : ℕ) (f : ℕ → ℕ) → ((v : ℕ) → f v < 2 ^ plan.bits) → AreGrowths plan s (listed (session plan s).wires f)
-listed_fit plan s f h = record {
-  wires = length-listed (session plan s).wires f;
-  below = listed_below (session plan s).wires (2 ^ plan.bits) f (pow_pos plan.bits) h;
-}
+pub listed_fit : (plan : Plan) (n : ℕ) (f : ℕ → ℕ) → ((v : ℕ) → f v < 2 ^ plan.bits) → AreNumbers plan n (listed n f)
+listed_fit plan n f h = record { long = length-listed n f; below = listed_below n (2 ^ plan.bits) f (pow_pos plan.bits) h }
 
-pub differences_fit : (plan : Plan) (s : ℕ) (first second : ℕ → ℕ) → AreGrowths plan s (listed (session plan s).wires (λ v. difference (2 ^ plan.bits) (second v) (first v)))
-differences_fit plan s first second = listed_fit plan s _ (λ v. mod-lt _ (pow_pos plan.bits))
+pub differences_fit : (plan : Plan) (n : ℕ) (first second : ℕ → ℕ) → AreNumbers plan n (listed n (λ v. difference (2 ^ plan.bits) (second v) (first v)))
+differences_fit plan n first second = listed_fit plan n _ (λ v. mod-lt _ (pow_pos plan.bits))
 
-growths_fit : (w : World) (other : List (List (List ℕ))) (s : ℕ) → AreGrowths w.plan s (growths w other s)
-growths_fit w other s = listed_fit w.plan s _ (λ v. mod-lt _ (pow_pos w.plan.bits))
-
-values_fit : (w : World) (s : ℕ) (list : List ℕ) → IsSound w.plan → AreInputs w.plan w.inputs → list ≡ value_list w s → AreGrowths w.plan s list
-values_fit w s list sound inputs is = subst (AreGrowths w.plan s) (sym is) (listed_fit w.plan s (plain w s) (small_plain w sound inputs s))
+values_fit : (w : World) (s : ℕ) (list : List ℕ) → IsSound w.plan → AreInputs w.plan w.inputs → list ≡ value_list w s → AreNumbers w.plan (session w.plan s).wires list
+values_fit w s list sound inputs is = subst (AreNumbers w.plan (session w.plan s).wires) (sym is) (listed_fit w.plan (session w.plan s).wires (plain w s) (small_plain w sound inputs s))
 
 -- so of all sessions
 pub lists_fit : (w : World) (lists : List (List ℕ)) → IsSound w.plan → AreInputs w.plan w.inputs → lists ≡ value_lists w → AreWireNumbers w.plan lists
@@ -197,30 +185,71 @@ all_grown w other s first second ef es =
     (ap (λ xs. slice_index xs v) es ∙ listed_at wires (plain (with_inputs w other) s) v 0 l)
     (ap (λ xs. slice_index xs v) ef ∙ listed_at wires (plain w s) v 0 l))
 
-pub rows_fit : (w : World) (s : ℕ) → IsWhole w → AreNamedRows w.plan s (summand_rows w s)
-rows_fit w s whole = record {
-  names = rows_named w s;
-  wires = λ v l. subst (IsRow w.plan) (sym (wire_last w s v l)) (wire_whole w whole s v);
-  masks = λ t side l e. subst (IsRow w.plan) (sym (mask_last w s t side l e)) (mask_whole w whole s t side);
-}
+-- what holds of each row, and where there is none, holds of the row of a name
+at_name : (P : List ℕ → Type 0) (rows : List (List ℕ)) (name : ℕ) → P [] → AllByRecursion P rows → P (slice_index_or rows name [])
+at_name P [] name none each = none
+at_name P (row ∷ rows) zero none each = each.0
+at_name P (row ∷ rows) (suc name) none each = at_name P rows name none each.1
+
+module _ (w : World) (s : ℕ) (whole : IsWhole w) (ls : s < length w.plan.sessions) where
+  abbrev here : Session
+  here = session w.plan s
+
+  -- whole, if it has words
+  abbrev IsWholeIfAny : List ℕ → Type 0
+  IsWholeIfAny row = 0 < length row → IsRow w.plan row
+
+  none_whole : IsWholeIfAny []
+  none_whole some = absurd (omega (arith, some))
+
+  all_whole : AllByRecursion IsWholeIfAny (summand_rows w s)
+  all_whole =
+      every_append IsWholeIfAny (listed here.wires (summand_row w s)) _ (every_listed IsWholeIfAny here.wires (summand_row w s) (λ v some. wire_whole w whole s v))
+      (every_only_if IsWholeIfAny here.prepared _ (λ e. every_joined IsWholeIfAny (length here.gates) (prepared_rows w s) (λ t l.
+      cond_both (is_prepared here t) _ _ (AllByRecursion IsWholeIfAny)
+      (λ e. ((λ some. mask_whole w whole s t First), ((λ some. mask_whole w whole s t Second), ((λ some. product_whole w whole s t), tt))))
+      (λ e. (none_whole, (none_whole, (none_whole, tt)))))))
+
+  wire_is_row : (v : ℕ) → v < here.wires → IsRow w.plan (last_row w s v)
+  wire_is_row v l = subst (IsRow w.plan) (sym (wire_last w s v l)) (wire_whole w whole s v)
+
+  mask_is_row : (t : ℕ) (side : Side) → t < length here.gates → is_prepared here t ≡ true → IsRow w.plan (last_row w s (mask_wire here t side))
+  mask_is_row t side l e = subst (IsRow w.plan) (sym (mask_last w s t side l e)) (mask_whole w whole s t side)
+
+  read_whole : (kind : Slot) → Inside here kind → ReadsWhole w.plan (summand_rows w s) (content here kind)
+  read_whole (At_gate t) l = (
+    wire_is_row (gate here t).first ((whole.sound.sessions s ls).wired.first t l),
+    wire_is_row (gate here t).second ((whole.sound.sessions s ls).wired.second t l),
+  )
+  read_whole (Mask_product t) l = (mask_is_row t First l.0 l.1, mask_is_row t Second l.0 l.1)
+  read_whole (Input v) l = tt
+  read_whole (Output o) l = tt
+  read_whole (Mask t side) l = tt
+  read_whole (Masked t side) l = tt
+  read_whole (Kept j) l = tt
+
+  pub rows_fit : AreNamedRows w.plan s (summand_rows w s)
+  rows_fit = record { names = rows_named w s; whole = λ name. at_name IsWholeIfAny (summand_rows w s) name none_whole all_whole; read = read_whole }
 
 -- the tables that were made fit
-pub table_fits : (w : World) (s g : ℕ) (more : List ℕ) (c : Change) → IsWhole w → s < length w.plan.sessions → AreGrowths w.plan s more
-    → IsTable w.plan s g more (summand_rows w s) c → Fits w.plan c
+pub table_fits : (w : World) (s g : ℕ) (more : List ℕ) (c : Change) → IsWhole w → s < length w.plan.sessions → AreNumbers w.plan (session w.plan s).wires more
+    → IsTable w.plan s g (row_growths (session w.plan s) more) (summand_rows w s) c → Fits w.plan c
 table_fits w s g more c whole ls fit h = record {
   there = subst (λ k. k < length w.plan.sessions) (sym h.at) ls;
-  growths = subst (AreGrowths w.plan c.session) (sym h.growths) (subst (λ k. AreGrowths w.plan k more) (sym h.at) fit);
-  rows = subst (AreNamedRows w.plan c.session) (sym h.rows) (subst (λ k. AreNamedRows w.plan k (summand_rows w s)) (sym h.at) (rows_fit w s whole));
-  tables = own_tables w.plan s g more (summand_rows w s) c h;
+  growths = subst (λ k. AreNumbers w.plan (row_names (session w.plan k)) c.growths.items) (sym h.at)
+      (subst (AreNumbers w.plan (row_names (session w.plan s))) (sym h.growths) (row_numbers w.plan (session w.plan s) more fit));
+  rows = subst (λ k. AreNamedRows w.plan k c.rows) (sym h.at) (subst (AreNamedRows w.plan s) (sym h.rows) (rows_fit w s whole ls));
+  moved = h.moved ∙ ap₂ (grown_rows w.plan s g) (sym h.growths) (sym h.rows)
+      ∙ ap₂ (λ k n. grown_rows w.plan k n c.growths.items c.rows) (sym h.at) (sym h.hidden_summand);
 }
 
 -- and hide the other inputs, where the wires grow with these, and the summand is the group's
 pub hides : (w : World) (other : List (List (List ℕ))) (group s g : ℕ) (more first second : List ℕ) (c : Change) → g ≡ hidden w.plan group
     → more ≡ listed (session w.plan s).wires (λ v. difference (2 ^ w.plan.bits) (slice_index second v) (slice_index first v))
-    → first ≡ value_list w s → second ≡ value_list (with_inputs w other) s → IsTable w.plan s g more (summand_rows w s) c → IsChange w other group s c
+    → first ≡ value_list w s → second ≡ value_list (with_inputs w other) s → IsTable w.plan s g (row_growths (session w.plan s) more) (summand_rows w s) c → IsChange w other group s c
 hides w other group s g more first second c hidden_is grown ef es h =
-    subst (λ xs. IsTable w.plan s (hidden w.plan group) xs (summand_rows w s) c) (grown ∙ all_grown w other s first second ef es)
-    (subst (λ k. IsTable w.plan s k more (summand_rows w s) c) hidden_is h)
+    subst (λ xs. IsTable w.plan s (hidden w.plan group) (row_growths (session w.plan s) xs) (summand_rows w s) c) (grown ∙ all_grown w other s first second ef es)
+    (subst (λ k. IsTable w.plan s k (row_growths (session w.plan s) more) (summand_rows w s) c) hidden_is h)
 
 module _ (w : World) (other : List (List (List ℕ))) (group : ℕ) (whole : IsWhole w) (c : Change)
     (ls : c.session < length w.plan.sessions) (h : IsChange w other group c.session c) where
@@ -248,8 +277,12 @@ module _ (w : World) (other : List (List (List ℕ))) (group : ℕ) (whole : IsW
   ordered : GatesInOrder x
   ordered = in_order x (whole.sound.sessions s ls).wired
 
-  fits : Fits w.plan c
-  fits = table_fits w s g (growths w other s) c whole ls (growths_fit w other s) h
+  -- by how much the wires grow after all gates
+  abbrev more : List ℕ
+  more = growths w other s
+
+  many : length more ≡ x.wires
+  many = length-listed x.wires (delta w other s count)
 
   -- ---- what is dealt
 
@@ -260,8 +293,8 @@ module _ (w : World) (other : List (List (List ℕ))) (group : ℕ) (whole : IsW
       ∙ cond-true (nat_lt v (length (owners (session u.plan s)))) _ 0 (lt-ltb v (length (owners (session u.plan s))) l)
       ∙ ap (source_value u (values_before u s) s v) from
 
-  growth_at : (v : ℕ) → v < x.wires → slice_index c.growths.items v ≡ delta w other s count v
-  growth_at v l = ap (λ xs. slice_index xs v) h.growths ∙ listed_at x.wires (delta w other s count) v 0 l
+  growth_at : (v : ℕ) → v < x.wires → slice_index more v ≡ delta w other s count v
+  growth_at v l = listed_at x.wires (delta w other s count) v 0 l
 
   -- a wire that a product reads grows from then on as it did before
   abbrev Ends : ℕ → Side → Type 0
@@ -290,70 +323,70 @@ module _ (w : World) (other : List (List (List ℕ))) (group : ℕ) (whole : IsW
   operand_within t Second l = (whole.sound.sessions s ls).wired.second t l
 
   growth_before : (t : ℕ) (side : Side) → t < count → is_product (gate x t).operation ≡ true
-      → slice_index c.growths.items (operand (gate x t) side) ≡ delta w other s t (operand (gate x t) side)
+      → slice_index more (operand (gate x t) side) ≡ delta w other s t (operand (gate x t) side)
   growth_before t side l product =
       let e = ends t side l product in
       growth_at (operand (gate x t) side) (operand_within t side l) ∙ ap₂ (difference q) e.1 e.0
 
-  -- a row of a wire that a product reads, and of its mask
-  row_before : (t i : ℕ) (side : Side) → t < count → is_product (gate x t).operation ≡ true → i < m
-      → slice_index (slice_index_or c.rows (operand (gate x t) side) []) i ≡ summands (run_of w s) t (operand (gate x t) side) i
-  row_before t i side l product li =
-      let v = operand (gate x t) side in
-      ap (λ rows. slice_index (slice_index_or rows v []) i) h.rows
-      ∙ ap (λ xs. slice_index xs i) (wire_last w s v (operand_within t side l))
-      ∙ listed_at m (summands (run_of w s) count v) i 0 li
-      ∙ ap (λ (f : ℕ → ℕ). f i) (ends t side l product).2
+  -- the row of this name has these summands, and grows by d
+  record IsMoved (name : ℕ) (f : ℕ → ℕ) (d : ℕ) : Type 0 where
+    pub growth : slice_index c.growths.items name ≡ d
+    pub before : (i : ℕ) → i < m → slice_index (slice_index_or c.rows name []) i ≡ f i
+    pub after : (i : ℕ) → i < m → slice_index (slice_index_or (session_words c.moved.items) name []) i ≡ raised q g d f i
 
-  mask_before : (t i : ℕ) (side : Side) → t < count → is_prepared x t ≡ true → i < m
-      → slice_index (slice_index_or c.rows (mask_wire x t side) []) i ≡ mask w s t side i
-  mask_before t i side l e li =
-      ap (λ rows. slice_index (slice_index_or rows (mask_wire x t side) []) i) h.rows
-      ∙ ap (λ xs. slice_index xs i) (mask_last w s t side l e)
-      ∙ listed_at m (mask w s t side) i 0 li
+  is_moved : (name : ℕ) (f : ℕ → ℕ) (d : ℕ) → name < row_names x → slice_index (row_growths x more) name ≡ d → last_row w s name ≡ listed m f → IsMoved name f d
+  is_moved name f d l grown row_is = record {
+    growth = ap (λ ds. slice_index ds name) h.growths ∙ grown;
+    before = λ i li. ap (λ rows. slice_index (slice_index_or rows name []) i) h.rows ∙ summand_at i li;
+    after = λ i li.
+        ap (λ rows. slice_index (slice_index_or rows name []) i) h.moved
+        ∙ ap (λ xs. slice_index xs i) (listed_at (row_names x) _ name [] l)
+        ∙ listed_at (length (last_row w s name)) _ i 0 (omega (arith, li, ap length row_is, length-listed m f))
+        ∙ raised_eq q g (slice_index (row_growths x more) name) d (slice_index (last_row w s name)) f i grown (summand_at i li);
+  }
+    where
+      summand_at : (i : ℕ) → i < m → slice_index (last_row w s name) i ≡ f i
+      summand_at i li = ap (λ xs. slice_index xs i) row_is ∙ listed_at m f i 0 li
 
-  -- and as they are moved
-  row_after : (t i : ℕ) (side : Side) → t < count → is_product (gate x t).operation ≡ true → i < m
-      → slice_index (slice_index_or (session_words c.moved.items) (operand (gate x t) side) []) i ≡ moved_summands w other group s t (operand (gate x t) side) i
-  row_after t i side l product li =
+  -- so the row of a wire that a product reads, and of its mask
+  wire_moved : (t : ℕ) (side : Side) → t < count → is_product (gate x t).operation ≡ true
+      → IsMoved (operand (gate x t) side) (summands (run_of w s) t (operand (gate x t) side)) (delta w other s t (operand (gate x t) side))
+  wire_moved t side l product =
       let v = operand (gate x t) side in
-      ap (λ rows. slice_index (slice_index_or rows v []) i) fits.tables.moved
-      ∙ ap (λ xs. slice_index xs i) (moved_at w.plan s c.hidden c.growths.items c.rows v (operand_within t side l))
-      ∙ listed_at m _ i 0 li
-      ∙ ap (λ k. raised q k (slice_index c.growths.items v) (slice_index (slice_index_or c.rows v [])) i) h.hidden_summand
-      ∙ raised_eq q g (slice_index c.growths.items v) (delta w other s t v) (slice_index (slice_index_or c.rows v [])) (summands (run_of w s) t v) i
-      (growth_before t side l product) (row_before t i side l product li)
+      let within = operand_within t side l in
+      is_moved v (summands (run_of w s) t v) (delta w other s t v) (omega (arith, within, wires_named x))
+      (wire_grows x more many v within ∙ growth_before t side l product)
+      (wire_last w s v within ∙ ap (listed m) (ends t side l product).2)
 
-  mask_after : (t i : ℕ) (side : Side) → t < count → is_prepared x t ≡ true → i < m
-      → slice_index (slice_index_or (masks_of c side) t []) i ≡ moved_mask w other group s t side i
-  mask_after t i side l e li =
-      let product = (and_parts x.prepared (is_product (gate x t).operation) e).1 in
-      let v = operand (gate x t) side in
-      ap (λ rows. slice_index (slice_index_or rows t []) i) (fits.tables.masks side)
-      ∙ ap (λ xs. slice_index xs i) (moved_mask_at w.plan s c.hidden c.growths.items c.rows side t l e)
-      ∙ listed_at m _ i 0 li
-      ∙ ap (λ k. raised q k (slice_index c.growths.items v) (slice_index (slice_index_or c.rows (mask_wire x t side) [])) i) h.hidden_summand
-      ∙ raised_eq q g (slice_index c.growths.items v) (delta w other s t v) (slice_index (slice_index_or c.rows (mask_wire x t side) [])) (mask w s t side) i
-      (growth_before t side l product) (mask_before t i side l e li)
+  mask_moved : (t : ℕ) (side : Side) → t < count → is_prepared x t ≡ true → IsMoved (mask_wire x t side) (mask w s t side) (delta w other s t (operand (gate x t) side))
+  mask_moved t side l e =
+      let both = and_parts x.prepared (is_product (gate x t).operation) e in
+      is_moved (mask_wire x t side) (mask w s t side) (delta w other s t (operand (gate x t) side)) (mask_within x t side l e)
+      (mask_grows x more many t side l both.0 ∙ growth_before t side l both.1) (mask_last w s t side l e)
+
+  -- and so p's part of the product of two rows grows
+  product_moved : (p a b : ℕ) (f f' : ℕ → ℕ) (d d' : ℕ) → IsMoved a f d → IsMoved b f' d'
+      → product_growth w.plan p (slice_index_or c.rows a []) (slice_index_or c.rows b []) (slice_index_or (session_words c.moved.items) a []) (slice_index_or (session_words c.moved.items) b [])
+      ≡ difference q (own_product (scheme w.plan) p (raised q g d f) (raised q g d' f')) (own_product (scheme w.plan) p f f')
+  product_moved p a b f f' d d' first second =
+      ap₂ (difference q) (own_alike w.plan p _ _ _ _ first.after second.after) (own_alike w.plan p _ _ _ _ first.before second.before)
 
   -- the hidden word of a slot in which p draws words grows as it is to
-  growth_is : (p : ℕ) (z : Slot) → Inside x z → 0 < words_in w.plan s p z → growth_in w.plan c p z ≡ growth w other group s p z
+  growth_is : (p : ℕ) (z : Slot) → Inside x z → 0 < words_in w.plan s p z → growth_in w.plan c p (content x z) ≡ growth w other group s p z
   growth_is p (Input v) inside some =
       let within : v < x.wires = omega (arith, inside, (whole.sound.sessions s ls).wired.input_wires) in
       let from = given_is p (source x v) (gives_here p v some) in
-      growth_at v within ∙ ap₂ (difference q) (input_at_end after v p ordered inside from) (input_at_end w v p ordered inside from)
+      ap (λ ds. slice_index ds v) h.growths ∙ wire_grows x more many v within ∙ growth_at v within ∙ ap₂ (difference q) (input_at_end after v p ordered inside from) (input_at_end w v p ordered inside from)
     where
       gives_here : (p v : ℕ) → 0 < words_in w.plan s p (Input v) → given_by p (source x v) ≡ true
       gives_here p v some = elim (cases_Bool (deals_in w.plan s p (Input v))) [
         | inl gives ↦ gives
         | inr none ↦ absurd (let no_words = cond-false (deals_in w.plan s p (Input v)) (m - 1) 0 none in omega (arith, some, no_words))
       ]
-  growth_is p (Mask t side) inside some = growth_before t side inside.0 (and_parts x.prepared (is_product (gate x t).operation) inside.1).1
+  growth_is p (Mask t side) inside some = (mask_moved t side inside.0 inside.1).growth
   growth_is p (At_gate t) inside some =
       let product = direct_product p t some in
-      ap₂ (difference q)
-      (own_alike w.plan p _ _ _ _ (λ i li. row_after t i First inside product li) (λ i li. row_after t i Second inside product li))
-      (own_alike w.plan p _ _ _ _ (λ i li. row_before t i First inside product li) (λ i li. row_before t i Second inside product li))
+      product_moved p _ _ _ _ _ _ (wire_moved t First inside product) (wire_moved t Second inside product)
     where
       direct_product : (p t : ℕ) → 0 < words_in w.plan s p (At_gate t) → is_product (gate x t).operation ≡ true
       direct_product p t some = elim (cases_Bool (deals_in w.plan s p (At_gate t))) [
@@ -361,9 +394,7 @@ module _ (w : World) (other : List (List (List ℕ))) (group : ℕ) (whole : IsW
         | inr none ↦ absurd (let no_words = cond-false (deals_in w.plan s p (At_gate t)) (m - 1) 0 none in omega (arith, some, no_words))
       ]
   growth_is p (Mask_product t) inside some =
-      ap₂ (difference q)
-      (own_alike w.plan p _ _ _ _ (λ i li. mask_after t i First inside.0 inside.1 li) (λ i li. mask_after t i Second inside.0 inside.1 li))
-      (own_alike w.plan p _ _ _ _ (λ i li. mask_before t i First inside.0 inside.1 li) (λ i li. mask_before t i Second inside.0 inside.1 li))
+      product_moved p _ _ _ _ _ _ (mask_moved t First inside.0 inside.1) (mask_moved t Second inside.0 inside.1)
   growth_is p (Output o) inside some = absurd (omega (arith, some))
   growth_is p (Masked t side) inside some = absurd (omega (arith, some))
   growth_is p (Kept j) inside some = absurd (omega (arith, some))

@@ -1,21 +1,26 @@
 //! How the tapes of one session change.
-ghost use Rattle.std.specs.Prelude.{◌≡◌, ℕ, ◌+◌, ◌^◌, ◌<◌, ◌≤◌, ◌++◌, ◌%◌, if◌then◌else◌, All, IfOk, OnOk, length, slice_index};
+ghost use Rattle.std.specs.Prelude.{◌≡◌, ℕ, ◌+◌, ◌^◌, ◌<◌, ◌≤◌, ◌++◌, ◌%◌, if◌then◌else◌};
+ghost use Rattle.std.specs.Prelude.{All, IfOk, OnOk, length, slice_index};
 ghost use Rattle.list_laws.specs.Lists.{listed};
+ghost use Rattle.session_slots.specs.Sessions.{row_names};
+ghost use Rattle.session_slots.specs.SoundSessions.{IsWired};
 ghost use Rattle.plan_model.specs.Plans.{session};
+ghost use Rattle.plan_model.specs.InputWords.{session_words};
 ghost use Rattle.mpc_ring.specs.Differences.{difference};
 ghost use Rattle.tape_map.specs.TapeMaps.{raised};
-ghost use Rattle.tape_map.specs.Changes.{AreGrowths, product_growth};
+ghost use Rattle.tape_map.specs.Changes.{AreNumbers, AreNamedRows, grown_rows, product_growth, row_growths};
 
-use job_plan::{Plan, SlotKind};
-use job_session::{Side, operand};
+use circuit_model::Gate;
+use job_plan::{Plan, SessionPart, SlotKind};
+use job_session::SlotContent;
 use mpc_ring::Ring;
 use party_set::Group;
 use reshare_step::own_products;
 use std::alloc::{AllocError, Global};
 use wire_tables::{CarriedRows, SummandTable, WorldData, words_in};
 
-/// The tables of a session: by how much its wires grow with the other inputs, their summands, those of
-/// the masks of prepared products too, and both as they are when the hidden one grows as the wire does.
+/// The tables of a session, by the names of its rows: by how much each grows with the other inputs, its summands, and
+/// these as they are when the hidden one grows by so much.
 #[derive(Drop)]
 pub struct Change {
     pub session: u32,
@@ -23,59 +28,49 @@ pub struct Change {
     pub growths: Vec<u64>,
     pub rows: SummandTable,
     pub moved: Vec<Vec<u64>>,
-    pub first_masks: Vec<Vec<u64>>,
-    pub second_masks: Vec<Vec<u64>>,
 }
 
 impl Change {
-    ghost use Rattle.std.specs.Prelude.{◌≡◌, ℕ, ◌+◌, ◌^◌, ◌<◌, ◌≤◌, ◌++◌, IfOk, OnOk, All, true, length};
-    ghost use Rattle.session_slots.specs.Sessions.{is_prepared};
-    ghost use Rattle.session_slots.specs.Sessions.Slot.{At_gate, Mask_product};
-    ghost use Rattle.session_slots.specs.SoundSessions.{Inside, slot_of_kind};
+    ghost use Rattle.std.specs.Prelude.{◌≡◌, ℕ, ◌+◌, ◌^◌, ◌<◌, ◌≤◌, ◌++◌, [], IfOk, OnOk, All, length, slice_index_or};
+    ghost use Rattle.session_slots.specs.declared.slot_content.SlotContent.TheVariants.{Product};
+    ghost use Rattle.session_slots.specs.Sessions.{row_names};
+    ghost use Rattle.session_slots.specs.SoundSessions.{AreNamed, Inside, slot_of_kind};
+    ghost use Rattle.plan_model.specs.InputWords.{session_words};
     ghost use Rattle.plan_model.specs.Plans.{session, place, words};
     ghost use Rattle.share_world.specs.Laws.{IsWhole};
     ghost use Rattle.wire_tables.specs.WireTables.{AreCarried, summand_rows, world_of};
     ghost use Rattle.tape_map.specs.TapeMaps.{hidden, hidden_word};
-    ghost use Rattle.tape_map.specs.Changes.{AreGrowths, IsTable, Fits, growth_in, growth_by, grown_piece};
+    ghost use Rattle.tape_map.specs.Changes.{AreNumbers, ReadsWhole, IsTable, Fits, growth_in, growth_by, grown_piece, row_growths};
 
     /// The tables of session `s`, whose wires grow by `growths`, where this summand is the hidden one. `carried` has
     /// what is carried of the sessions before, and what is carried of this one is added there.
     pub fn make(
         alloc: Global,
         world: &WorldData<'_>,
-        growths: Vec<u64>,
+        growths: &[u64],
         carried: &mut CarriedRows,
         share: u32,
         s: u32,
     ) -> Result<Change, AllocError>
         requires whole { IsWhole (world_of world.now) }
-        requires growths { AreGrowths world.now.plan.now s growths.items }
+        requires growths { AreNumbers world.now.plan.now (session world.now.plan.now s).wires growths.now }
         requires carried { AreCarried (world_of world.now) s carried.old }
         requires share { share < length world.now.plan.now.groups }
         requires session { s < length world.now.plan.now.sessions }
-        ensures made { IfOk result (IsTable world.now.plan.now s share growths.items
-            (summand_rows (world_of world.now) s)) }
+        ensures made { IfOk result (IsTable world.now.plan.now s share
+            (row_growths (session world.now.plan.now s) growths.now) (summand_rows (world_of world.now) s)) }
         ensures carried { OnOk result (AreCarried (world_of world.now) (s + 1) carried.new) }
     {
         let plan = world.plan;
+        let growths = row_growths(alloc, plan.part(s), growths)?;
         let rows = SummandTable::make(alloc, world, carried, s)?;
-        let growing = Growing {
-            session: s,
-            hidden: share,
-            growths: &growths,
-            rows: &rows,
-        };
-        let moved = growing.moved_rows(alloc, plan)?;
-        let first_masks = growing.moved_masks(alloc, plan, Side::First)?;
-        let second_masks = growing.moved_masks(alloc, plan, Side::Second)?;
+        let moved = moved_rows(alloc, plan, s, share, &growths, &rows)?;
         Ok(Change {
             session: s,
             hidden: share,
             growths,
             rows,
             moved,
-            first_masks,
-            second_masks,
         })
     }
 
@@ -133,7 +128,7 @@ impl Change {
         }
     }
 
-    // By how much that word grows: not at all where `p` is a member.
+    // By how much that word grows: not at all where `p` is a member, and else as what is dealt there.
     fn growth(&self, plan: &Plan, group: Group, p: u32, kind: SlotKind) -> u64
         requires fits { Fits plan.now self.now }
         requires group { group.parties ≡ plan.now.parties }
@@ -146,47 +141,33 @@ impl Change {
         if group.has(p) {
             return ring.zero();
         }
-        let part = plan.part(self.session);
-        match kind {
-            SlotKind::Input(v) => self.growths[v as usize],
-            SlotKind::Mask(t, side) => self.growths[operand(part.gate(t), side) as usize],
-            SlotKind::Gate(t) => self.gate_growth(plan, p, t),
-            SlotKind::MaskProduct(t) => self.masks_growth(plan, p, t),
-            SlotKind::Output(_) | SlotKind::Masked(_, _) | SlotKind::Kept(_) => ring.zero(),
+        match plan.part(self.session).content(kind) {
+            SlotContent::Row(name) => self.growths[name as usize],
+            SlotContent::Excess { .. } => ring.zero(),
+            SlotContent::Product(gate) => self.part_growth(plan, p, gate),
         }
     }
 
-    // By how much party `p`'s part of the product of gate `t` grows.
-    fn gate_growth(&self, plan: &Plan, p: u32, t: u32) -> u64
+    // By how much party `p`'s part of the product of the rows grows that a gate reads.
+    fn part_growth(&self, plan: &Plan, p: u32, gate: Gate) -> u64
         requires fits { Fits plan.now self.now }
         requires party { p < plan.now.parties }
-        requires gate { t < length (session plan.now self.now.session).gates }
-        ensures is { result ≡ growth_in plan.now self.now p (At_gate t) }
+        requires named { AreNamed (row_names (session plan.now self.now.session)) (Product gate) }
+        requires whole { ReadsWhole plan.now self.now.rows (Product gate) }
+        ensures is { result ≡ growth_in plan.now self.now p (Product gate) }
         ensures below { result < 2 ^ plan.now.bits }
     {
-        plan.recall();
-        let gate = plan.part(self.session).gate(t);
         let (x, y) = (self.rows.row(gate.first), self.rows.row(gate.second));
-        let moved_x = &self.moved[gate.first as usize];
-        let moved_y = &self.moved[gate.second as usize];
+        let (moved_x, moved_y) = (self.moved_row(gate.first), self.moved_row(gate.second));
         product_growth(plan, p, x, y, moved_x, moved_y)
     }
 
-    // By how much its part of the product of the masks of that gate's wires grows.
-    fn masks_growth(&self, plan: &Plan, p: u32, t: u32) -> u64
-        requires fits { Fits plan.now self.now }
-        requires party { p < plan.now.parties }
-        requires gate { t < length (session plan.now self.now.session).gates }
-        requires prepared { is_prepared (session plan.now self.now.session) t ≡ true }
-        ensures is { result ≡ growth_in plan.now self.now p (Mask_product t) }
-        ensures below { result < 2 ^ plan.now.bits }
+    // The row of this name, as it is moved.
+    fn moved_row(&self, name: u32) -> &[u64]
+        requires { name < length self.now.moved.items }
+        ensures { result.now ≡ slice_index_or (session_words self.now.moved.items) name [] }
     {
-        let part = plan.part(self.session);
-        let masks = part.product_of_masks(t);
-        let (a, b) = (self.rows.row(masks.first), self.rows.row(masks.second));
-        let moved_a = &self.first_masks[t as usize];
-        let moved_b = &self.second_masks[t as usize];
-        product_growth(plan, p, a, b, moved_a, moved_b)
+        &self.moved[name as usize]
     }
 }
 
@@ -221,11 +202,11 @@ pub(crate) fn wire_growths(
     first: &[u64],
     second: &[u64],
 ) -> Result<Vec<u64>, AllocError>
-    requires first { AreGrowths plan.now s first.now }
-    requires second { AreGrowths plan.now s second.now }
+    requires first { AreNumbers plan.now (session plan.now s).wires first.now }
+    requires second { AreNumbers plan.now (session plan.now s).wires second.now }
     ensures is { IfOk result (λ more. more.items ≡ listed (session plan.now s).wires
         (λ v. difference (2 ^ plan.now.bits) (slice_index second.now v) (slice_index first.now v))) }
-    ensures fit { IfOk result (λ more. AreGrowths plan.now s more.items) }
+    ensures fit { IfOk result (λ more. AreNumbers plan.now (session plan.now s).wires more.items) }
 {
     let ring = plan.ring();
     let mut growths = Vec::new(alloc);
@@ -235,87 +216,52 @@ pub(crate) fn wire_growths(
     Ok(growths)
 }
 
-// A session whose wires grow: the summand that is to grow with them, by how much each wire does, and the rows of the
-// wires and masks as they are.
-#[derive(Clone, Copy)]
-struct Growing<'a> {
-    session: u32,
-    hidden: u32,
-    growths: &'a [u64],
-    rows: &'a SummandTable,
+// By how much the row of each name grows, where the wires grow by `growths`: a mask as the wire that it masks, and the
+// product of masks, which no product reads, not at all.
+fn row_growths(alloc: Global, part: &SessionPart, growths: &[u64]) -> Result<Vec<u64>, AllocError>
+    requires wired { IsWired part.now }
+    requires wires { length growths.now ≡ part.now.wires }
+    ensures { IfOk result (λ more. more.items ≡ row_growths part.now growths.now) }
+{
+    let mut more = Vec::with_capacity(alloc, part.row_names() as usize)?;
+    more.extend_from_slice(growths)?;
+    if part.is_prepared() {
+        for gate in part.gates() {
+            let first = growths[gate.first as usize];
+            let second = growths[gate.second as usize];
+            more.extend_from_slice(&[first, second, 0])?;
+        }
+    }
+    Ok(more)
 }
 
-impl Growing<'_> {
-    ghost use Rattle.std.specs.Prelude.{◌≡◌, ◌<◌, IfOk, true, length};
-    ghost use Rattle.plan_model.specs.InputWords.{session_words};
-    ghost use Rattle.plan_model.specs.Plans.{session};
-    ghost use Rattle.tape_map.specs.Changes.{IsOfPlan, grown_rows, grown_mask, grown_masks};
-
-    // The row of each wire, where the hidden summand grows as the wire does.
-    fn moved_rows(&self, alloc: Global, plan: &Plan) -> Result<Vec<Vec<u64>>, AllocError>
-        requires { IsOfPlan plan.now self.now }
-        ensures { let g = self.now in IfOk result (λ moved. session_words moved.items
-            ≡ grown_rows plan.now g.session g.hidden g.growths.now g.rows.now) }
-    {
-        let ring = plan.ring();
-        let mut moved = Vec::new(alloc);
-        for v in 0..plan.part(self.session).wires() {
-            let growth = self.growths[v as usize];
-            moved.push(raised_row(alloc, ring, self.hidden, growth, self.rows.row(v))?)?;
-        }
-        Ok(moved)
+// The row of each name, where the hidden summand grows by as much as the row is to.
+fn moved_rows(
+    alloc: Global,
+    plan: &Plan,
+    s: u32,
+    share: u32,
+    growths: &[u64],
+    rows: &SummandTable,
+) -> Result<Vec<Vec<u64>>, AllocError>
+    requires session { s < length plan.now.sessions }
+    requires share { share < length plan.now.groups }
+    requires growths { AreNumbers plan.now (row_names (session plan.now s)) growths.now }
+    requires rows { AreNamedRows plan.now s rows.now }
+    ensures { IfOk result (λ moved. session_words moved.items
+        ≡ grown_rows plan.now s share growths.now rows.now) }
+{
+    let ring = plan.ring();
+    let names = plan.part(s).row_names();
+    let mut moved = Vec::with_capacity(alloc, names as usize)?;
+    for name in 0..names {
+        let growth = growths[name as usize];
+        moved.push(raised_row(alloc, ring, share, growth, rows.row(name))?)?;
     }
-
-    // The row of the mask of each wire that a prepared product reads on this side, by gates, where that summand grows
-    // as the wire does.
-    fn moved_masks(
-        &self,
-        alloc: Global,
-        plan: &Plan,
-        side: Side,
-    ) -> Result<Vec<Vec<u64>>, AllocError>
-        requires { IsOfPlan plan.now self.now }
-        ensures { let g = self.now in IfOk result (λ masks. session_words masks.items
-            ≡ grown_masks plan.now g.session g.hidden g.growths.now g.rows.now side) }
-    {
-        plan.recall();
-        let part = plan.part(self.session);
-        let mut masks = Vec::new(alloc);
-        if part.is_prepared() {
-            for t in 0..part.gates().len() as u32 {
-                masks.push(self.moved_mask(alloc, plan, side, t)?)?;
-            }
-        }
-        Ok(masks)
-    }
-
-    // That of gate `t`, where it is a product, and else no words.
-    fn moved_mask(
-        &self,
-        alloc: Global,
-        plan: &Plan,
-        side: Side,
-        t: u32,
-    ) -> Result<Vec<u64>, AllocError>
-        requires of_plan { IsOfPlan plan.now self.now }
-        requires gate { t < length (session plan.now self.now.session).gates }
-        requires prepared { (session plan.now self.now.session).prepared ≡ true }
-        ensures { let g = self.now in IfOk result (λ mask. mask.items
-            ≡ grown_mask plan.now g.session g.hidden g.growths.now g.rows.now side t) }
-    {
-        let ring = plan.ring();
-        let part = plan.part(self.session);
-        let gate = part.gate(t);
-        if !gate.operation.is_product() {
-            return Ok(Vec::new(alloc));
-        }
-        let growth = self.growths[operand(gate, side) as usize];
-        let mask = self.rows.row(part.mask_wire(t, side));
-        raised_row(alloc, ring, self.hidden, growth, mask)
-    }
+    Ok(moved)
 }
 
-// A copy of a row, of which one summand grows.
+// A copy of a row, of which one summand grows, if it has any.
 fn raised_row(
     alloc: Global,
     ring: Ring,
@@ -323,12 +269,15 @@ fn raised_row(
     growth: u64,
     row: &[u64],
 ) -> Result<Vec<u64>, AllocError>
-    requires share { share < length row.now }
     requires growth { growth < 2 ^ ring }
-    requires words { All (λ word. word < 2 ^ ring) row.now }
+    requires row { 0 < length row.now
+        → (share < length row.now) × All (λ word. word < 2 ^ ring) row.now }
     ensures { IfOk result (λ raised_row. raised_row.items
         ≡ listed (length row.now) (raised (2 ^ ring) share growth (slice_index row.now))) }
 {
+    if row.is_empty() {
+        return Ok(Vec::new(alloc));
+    }
     let mut raised = Vec::from_slice(alloc, row)?;
     let word = raised[share as usize];
     raised[share as usize] = ring.add(word, growth);

@@ -1,5 +1,6 @@
 //! The change of tapes.
-ghost use Rattle.std.specs.Prelude.{◌≡◌, ℕ, ◌<◌, ◌⊎◌, ◌++◌, Some, IfOk, IfErr, OnOk, length, replicate, [], slice_index_or};
+ghost use Rattle.std.specs.Prelude.{◌≡◌, ℕ, ◌<◌, ◌⊎◌, ◌++◌, Some, IfOk, IfErr, OnOk, length};
+ghost use Rattle.std.specs.Prelude.{replicate, [], slice_index_or};
 ghost use Rattle.plan_model.specs.Plans.{structure, place};
 ghost use Rattle.plan_model.specs.InputWords.{AreInputs, InputLists, session_words};
 ghost use Rattle.share_world.specs.Laws.{IsWhole, AreTapes};
@@ -92,7 +93,7 @@ fn changed_tapes(
     for s in 0..plan.sessions() {
         let (one, another) = (&first[s as usize], &second[s as usize]);
         let growths = wire_growths(alloc, plan, s, one, another)?;
-        let change = Change::make(alloc, world, growths, &mut carried, share, s)?;
+        let change = Change::make(alloc, world, &growths, &mut carried, share, s)?;
         push_pieces(plan, world.tapes, &change, group, &mut changed)?;
     }
     Ok(changed)

@@ -1,6 +1,6 @@
 use Rattle.std.proofs.Common.{◌≡◌, ℕ, ◌+◌, ◌%◌, ◌^◌, ◌<◌, List, length, nat_eq, set, sym, ap, ◌∙◌, arith, inl, inr, get_or-set_other, get_or-set_same, length-set}
 use Rattle.std.specs.Prelude.{slice_index}
-use Rattle.std.proofs.lemmas.Bool.{cases_eq, cond-true, cond-false, eq-eqb, ne_eqb}
+use Rattle.std.proofs.lemmas.Bool.{cases_eq, cond-true, cond-false, eq-eqb, eqb-false, ne_eqb}
 use Rattle.std.proofs.lemmas.Grind.{get_or_default_zero}
 use Rattle.tape_map.specs.TapeMaps.{raised}
 use Rattle.wire_tables.proofs.ListedRows.{listed_of}
@@ -14,7 +14,8 @@ returns c =
     let new = c.add.result in
     let row : List ℕ = c.args.row.now in
     let is : xs ≡ row = c.in_ok-raised.ensures.items in
-    let there : g < length xs = omega (arith, ap length is, c.requires) in
+    let some : 0 < length row = omega (arith, eqb-false (length row) 0 (sym c.if-is_empty.ensures)) in
+    let there : g < length xs = omega (arith, ap length is, (c.requires.row some).0) in
     let word : c.index-word.result.now ≡ slice_index row g = c.index-word.ensures ∙ get_or_default_zero xs g c.index-word.result.now there ∙ ap (λ ys. slice_index ys g) is in
     listed_of 0 (length row) (raised q g c.args.growth (slice_index row)) (set xs g new) (length-set xs g new ∙ ap length is) (λ i li. elim (cases_eq i g) [
       | inl e ↦

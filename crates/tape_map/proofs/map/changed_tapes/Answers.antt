@@ -5,11 +5,11 @@ use Rattle.std.proofs.lemmas.List.{get_or-replicate, length-map, length-replicat
 use Rattle.list_laws.specs.Lists.{joined}
 use Rattle.list_laws.proofs.JoinedLists.{joined_more, length-listed, listed_at}
 use Rattle.plan_model.specs.InputWords.{session_words}
-use Rattle.plan_model.specs.Plans.{place}
+use Rattle.plan_model.specs.Plans.{place, session}
 use Rattle.share_world.specs.Worlds.{World}
 use Rattle.wire_tables.specs.WireTables.{value_list, value_lists, world_of}
 use Rattle.wire_tables.proofs.ListedRows.{listed_of, row_read}
-use Rattle.tape_map.specs.Changes.{AreGrowths, grown_piece}
+use Rattle.tape_map.specs.Changes.{AreNumbers, grown_piece}
 use Rattle.tape_map.specs.TapeMaps.{piece_map, tape_map, with_inputs}
 use Rattle.tape_map.proofs.ChangedPieces.{hides, lists_fit, next_place, piece_grown, table_fits}
 use Rattle.tape_map.proofs.map.changed_tapes.Goals as goal
@@ -48,21 +48,22 @@ wire_growths-requires-clause-first c =
     let w : World = world_of c.args.world.now in
     let s = c.loop-s.s in
     let there : s < length c.args.first.now = omega (arith, c.loop-s-test.true, c.sessions-s-end.ensures, ap length c.requires.first, length-listed (length w.plan.sessions) (value_list w), length-map c.args.first.now (λ (list : Vec ℕ). list.items)) in
-    subst (AreGrowths w.plan s) (sym (c.deref.ensures.value ∙ row_read c.args.first.now s c.index-first-s.result there c.index-first-s.is))
+    subst (AreNumbers w.plan (session w.plan s).wires) (sym (c.deref.ensures.value ∙ row_read c.args.first.now s c.index-first-s.result there c.index-first-s.is))
     ((lists_fit w (session_words c.args.first.now) c.requires.whole.sound c.requires.whole.inputs c.requires.first).numbers s (omega (arith, c.loop-s-test.true, c.sessions-s-end.ensures)))
 
 pub wire_growths-requires-clause-second : goal.wire_growths-requires-clause-second
 wire_growths-requires-clause-second c =
     let s = c.loop-s.s in
     let there : s < length c.args.second.now = omega (arith, c.loop-s-test.true, c.sessions-s-end.ensures, c.requires.second.sessions, length-map c.args.second.now (λ (list : Vec ℕ). list.items)) in
-    subst (AreGrowths c.args.world.now.plan.now s) (sym (c.deref-in-loop-s.ensures.value ∙ row_read c.args.second.now s c.index-second-s.result there c.index-second-s.is))
+    subst (AreNumbers c.args.world.now.plan.now (session c.args.world.now.plan.now s).wires) (sym (c.deref-in-loop-s.ensures.value ∙ row_read c.args.second.now s c.index-second-s.result there c.index-second-s.is))
     (c.requires.second.numbers s (omega (arith, c.loop-s-test.true, c.sessions-s-end.ensures)))
 
 pub push_pieces-requires-clause-fits : goal.push_pieces-requires-clause-fits
 push_pieces-requires-clause-fits c =
     let w : World = world_of c.args.world.now in
     let ls : c.loop-s.s < length c.args.world.now.plan.now.sessions = omega (arith, c.loop-s-test.true, c.sessions-s-end.ensures) in
-    table_fits w c.loop-s.s c.args.share c.in_ok-growths.growths.items c.in_ok-change.change c.requires.whole ls c.in_ok-growths.ensures.fit c.in_ok-change.ensures.made
+    let fit = subst (AreNumbers w.plan (session w.plan c.loop-s.s).wires) (sym c.deref-in-loop-s-2.ensures.value) c.in_ok-growths.ensures.fit in
+    table_fits w c.loop-s.s c.args.share c.deref-in-loop-s-2.result.now c.in_ok-change.change c.requires.whole ls fit c.in_ok-change.ensures.made
 
 pub push_pieces-requires-clause-before : goal.push_pieces-requires-clause-before
 push_pieces-requires-clause-before c p lp =
@@ -94,7 +95,7 @@ loop-s-preserved c =
       pieces = λ other are p lp.
           let first = list_read w c.args.first.now s _ c.requires.first ls (c.deref.ensures.value ∙ row_read c.args.first.now s c.index-first-s.result in_first c.index-first-s.is) in
           let second = list_read (with_inputs w other) c.args.second.now s _ are ls (c.deref-in-loop-s.ensures.value ∙ row_read c.args.second.now s c.index-second-s.result in_second c.index-second-s.is) in
-          let is = hides w other mask s c.args.share _ _ _ change c.requires.hidden c.in_ok-growths.ensures.is first second c.in_ok-change.ensures.made in
+          let is = hides w other mask s c.args.share _ _ _ change c.requires.hidden (c.deref-in-loop-s-2.ensures.value ∙ c.in_ok-growths.ensures.is) first second c.in_ok-change.ensures.made in
           ap (λ xs. slice_index_or (session_words xs) p []) items ∙ pushed p lp
           ∙ ap₂ (λ a b. a ++ b) (c.loop-s.invariant.pieces other are p lp) (piece_grown w other mask s c.requires.whole ls change is p)
           ∙ sym (joined_more s (piece_map w other mask p));
