@@ -27,10 +27,16 @@ operate q Eqw c a b = a
 abbrev pub set_at : {A : Type 0} → (ℕ → A) → ℕ → A → ℕ → A
 set_at f w a v = if nat_eq v w then a else f v
 
+-- what each wire has after the first t gates, where gate g puts on its output what it makes of what the wires have
+abbrev pub wires_after : {A : Type 0} → (Gate → (ℕ → A) → A) → (ℕ → Gate) → (ℕ → A) → ℕ → ℕ → A
+wires_after make gates start zero = start
+wires_after make gates start (suc t) =
+    set_at (wires_after make gates start t) (gates t).output (make (gates t) (wires_after make gates start t))
+
+-- the word that a gate makes of the words on the wires
+abbrev pub word_made : ℕ → Gate → (ℕ → ℕ) → ℕ
+word_made q g words = operate q g.operation g.constant (words g.first) (words g.second)
+
 -- the value of each wire after the first t gates
 abbrev pub values : ℕ → (ℕ → Gate) → (ℕ → ℕ) → ℕ → ℕ → ℕ
-values q gates start zero = start
-values q gates start (suc t) =
-    set_at (values q gates start t) (gates t).output
-    (operate q (gates t).operation (gates t).constant (values q gates start t (gates t).first)
-    (values q gates start t (gates t).second))
+values q = wires_after (word_made q)

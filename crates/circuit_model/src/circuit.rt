@@ -143,6 +143,14 @@ impl Circuit {
         &self.outputs
     }
 
+    /// The circuit with other gates. That it is valid is the caller's to prove.
+    pub fn with_gates(self, gates: Vec<Gate>) -> Circuit
+        requires { IsCircuit (record self { gates = gates.items }) }
+        ensures { result ≡ record self { gates = gates.items } }
+    {
+        Circuit { gates, ..self }
+    }
+
     /// All gates, in order.
     pub fn into_gates(self) -> Vec<Gate>
         ensures { result.items ≡ self.gates }

@@ -1,9 +1,9 @@
 -- Rows that are given out and taken back, slot by slot.
 use Rattle.std.specs.Prelude.{◌≡◌, ◌≢◌, ℕ, ◌+◌, ◌<◌, nat_eq, nat_lt, Bool, true, false, not, ◌&&◌, ◌||◌, if◌then◌else◌, List, [], length, slice_index, count_by, Option, ◌⊎◌}
-use Rattle.list_laws.specs.Lists.{total}
+use Rattle.list_laws.specs.Lists.{greatest, total}
 use Rattle.job_session.specs.declared.row_scan.RowScan.{RowScan}
 use Rattle.session_slots.specs.Sessions.{Session, row_names, session_slots}
-use Rattle.session_slots.specs.KeptWires.{greatest, is_kept, is_read, kept, slot_reads, slot_sets}
+use Rattle.session_slots.specs.KeptWires.{is_kept, is_read, kept, slot_reads, slot_sets}
 use Rattle.session_slots.specs.Wirings.{is_named}
 
 -- for each wire the number of the slot behind the last before slot n that reads it, and 0 where there is none

@@ -4,6 +4,7 @@ use Rattle.std.specs.List.{list_any}
 use Rattle.std.proofs.lemmas.Bool.{cases_Bool, cases_eq, cases_lt, cond-true, cond-false, cond_both, and_parts, eq-eqb, eqb-true, le-leb, leb-true, lt-leb, or_cases, or_left, false≢true}
 use Rattle.std.proofs.Math.Nat.{le-max_left, le-max_right, le-min, min-le_left, min-le_right}
 use Rattle.list_laws.specs.Lists.{only_if, total}
+use Rattle.list_laws.proofs.Greatest.{greatest_at}
 use Rattle.circuit_model.specs.Circuits.{is_product}
 use Rattle.circuit_model.specs.Netlists.{read_by}
 use Rattle.session_slots.specs.declared.side.Side.{Side}
@@ -13,14 +14,16 @@ use Rattle.session_slots.specs.Sessions.Slot.{Input, At_gate, Output, Mask, Mask
 use Rattle.session_slots.specs.SlotNumbers.{first_of_gate, first_of_masks, mask_product_number, prepared_before, session_slot_number}
 use Rattle.session_slots.specs.SoundSessions.{IsWired, Inside}
 use Rattle.session_slots.specs.Counts.{prepared_products, products}
-use Rattle.session_slots.specs.KeptWires.{greatest, sets_in, slot_sets}
+use Rattle.session_slots.specs.KeptWires.{sets_in, slot_sets}
 use Rattle.job_session.specs.Batches.{batch, batches, waits_for}
 use Rattle.session_slots.specs.EarlyWires.{completes, is_join, reads_early, sets_early, slot_completes}
 use Rattle.session_slots.proofs.SessionSlots.{all_prepared, gate_rises, masks_before_product, more_before, none_before, none_prepared, number_within, one_more, product_before_inputs, slot_kinds, slot_there, slots_are_numbered}
 use Rattle.job_session.proofs.BatchOrder.{batch_within, begins_waiting, rising}
 use Rattle.session_slots.proofs.GateOrder.{operand_read}
 use Rattle.session_slots.proofs.KeptRows.{one_wire}
-use Rattle.layer_laws.specs.Layers.{most, preparing_batches, product, products_to, layer, depth, JoinsLast, StandsByLayers}
+use Rattle.layer_order.specs.Depths.{most}
+use Rattle.layer_order.proofs.WireDepths.{most_at}
+use Rattle.layer_laws.specs.Layers.{preparing_batches, product, products_to, layer, depth, JoinsLast, StandsByLayers}
 
 -- one of a list passes both tests
 any_both : (f : ℕ → Bool) (vs : List ℕ) → list_any f vs ≡ true → (v : ℕ) × (list_any (nat_eq v) vs ≡ true) × (f v ≡ true)
@@ -33,20 +36,6 @@ any_both f (v ∷ vs) e = elim (or_cases (f v) (list_any f vs) e) [
     or_later : (a b : Bool) → b ≡ true → (a || b) ≡ true
     or_later true b e = refl
     or_later false b e = e
-
-most_at : (f : ℕ → ℕ) (vs : List ℕ) (v : ℕ) → list_any (nat_eq v) vs ≡ true → f v ≤ most f vs
-most_at f [] v e = absurd (false≢true e)
-most_at f (u ∷ vs) v e = elim (or_cases (nat_eq v u) (list_any (nat_eq v) vs) e) [
-  | inl here ↦ let same = ap f (eqb-true v u here) in let left = le-max_left (f u) (most f vs) in omega (arith, same, left)
-  | inr rest ↦ let less = most_at f vs v rest in let right = le-max_right (f u) (most f vs) in omega (arith, less, right)
-]
-
-greatest_at : (n : ℕ) (f : ℕ → ℕ) (i : ℕ) → i < n → f i ≤ greatest n f
-greatest_at zero f i l = absurd (omega (arith, l))
-greatest_at (suc n) f i l = elim (cases_eq i n) [
-  | inl same ↦ let e = ap f same in let right = le-max_right (greatest n f) (f n) in omega (arith, e, right)
-  | inr ne ↦ let less = greatest_at n f i (omega (arith, l, ne)) in let left = le-max_left (greatest n f) (f n) in omega (arith, less, left)
-]
 
 abbrev side_place : Side → ℕ
 side_place First = 0

@@ -1,4 +1,5 @@
 pub mod Totals
+pub mod Greatest
 pub mod JoinedLists
 pub mod ShortLists
 pub mod PushedLists

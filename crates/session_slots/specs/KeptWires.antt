@@ -1,8 +1,8 @@
 -- Which wires are kept at which slots, and a row for each wire: those that are kept together have rows of their own.
 -- The masks of a prepared product, and their product, are wires behind those of the circuit.
-use Rattle.std.specs.Prelude.{◌≡◌, ◌≢◌, ℕ, zero, suc, ◌+◌, ◌<◌, max, nat_eq, nat_le, Bool, true, false, ◌&&◌, if◌then◌else◌, List, [], ◌∷◌, length, slice_index, All}
+use Rattle.std.specs.Prelude.{◌≡◌, ◌≢◌, ℕ, zero, suc, ◌+◌, ◌<◌, nat_eq, nat_le, Bool, true, false, ◌&&◌, if◌then◌else◌, List, [], ◌∷◌, length, slice_index, All}
 use Rattle.std.specs.List.{list_any}
-use Rattle.list_laws.specs.Lists.{total, some_below}
+use Rattle.list_laws.specs.Lists.{greatest, total, some_below}
 use Rattle.circuit_model.specs.Netlists.{read_by}
 use Rattle.session_slots.specs.Sessions.{Session, Slot, gate, is_prepared, operand, mask_wire, product_wire, row_names, kept_wire, output_wire, session_slot, session_slots}
 use Rattle.session_slots.specs.declared.side.Side.TheVariants.{First, Second}
@@ -52,11 +52,6 @@ is_kept s k w =
 -- how many wires are kept before slot k
 unfoldable pub kept : Session → ℕ → ℕ
 kept s k = total (row_names s) (λ w. if is_kept s k w then 1 else 0)
-
--- the greatest of f 0 to f (n - 1), and 0 where there is none
-abbrev pub greatest : ℕ → (ℕ → ℕ) → ℕ
-greatest zero f = 0
-greatest (suc n) f = max (greatest n f) (f n)
 
 -- how many wires are kept where most are
 unfoldable pub live : Session → ℕ
