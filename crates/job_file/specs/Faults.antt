@@ -10,12 +10,12 @@ use Rattle.toml_fields.specs.Fields.{has_field, is_misfit}
 use Rattle.toml_fields.specs.Keys.{least_unknown}
 use Rattle.party_names.specs.Names.{party_named, names_fault}
 use Rattle.job_file.specs.declared.field.JobField.{JobField}
-use Rattle.job_file.specs.declared.field.JobField.TheVariants.{Version, RingBits, Parties, Tolerated, Hosts, Port, Frames, Views, Session, Circuit, Layout, Products, Owners, Readers}
+use Rattle.job_file.specs.declared.field.JobField.TheVariants.{Version, RingBits, Parties, Tolerated, Hosts, Port, Frames, Views, Session, Circuit, Layout, Products, Order, Owners, Readers}
 use Rattle.job_file.specs.declared.fault.JobFault.{JobFault}
-use Rattle.job_file.specs.declared.fault.JobFault.TheVariants.{NotToml, Version as OtherVersion, Missing, Unknown, WrongKind, BadRing, Names, SessionCount, BadFileName, BadLayout, BadProducts, BadOwner, BadCarry, BadReader, BadHost, BadPort, BadFrames, BadViews, BadTolerated, TooManyTolerated}
+use Rattle.job_file.specs.declared.fault.JobFault.TheVariants.{NotToml, Version as OtherVersion, Missing, Unknown, WrongKind, BadRing, Names, SessionCount, BadFileName, BadLayout, BadProducts, BadOrder, BadOwner, BadCarry, BadReader, BadHost, BadPort, BadFrames, BadViews, BadTolerated, TooManyTolerated}
 use Rattle.job_file.specs.Names.{field_text, field_kind, top_fields, session_fields, is_file_name, is_host, layout_of}
 use Rattle.job_file.specs.Owners.{is_carry, owner_in}
-use Rattle.job_file.specs.Forms.{JobForm, TextList, job_form, is_version_two, adversary_field, products_in, short_frames_in, own_views_in, integer, text, texts, items, lists, tables}
+use Rattle.job_file.specs.Forms.{JobForm, TextList, job_form, is_version_two, adversary_field, products_in, layered_gates_in, short_frames_in, own_views_in, integer, text, texts, items, lists, tables}
 use Rattle.job_file.specs.declared.limits.TheConstants.{LAST_PORT, MOST_TOLERATED}
 use Rattle.job_limits.specs.declared.limits.TheConstants.{MOST_SESSIONS}
 
@@ -141,6 +141,7 @@ session_fields_fault version_two session fields = first_fault
     ∷ required_fault (Some session) Circuit fields
     ∷ required_fault (Some session) Layout fields
     ∷ optional_fault (Some session) Products fields
+    ∷ optional_fault (Some session) Order fields
     ∷ required_fault (Some session) Owners fields
     ∷ required_fault (Some session) Readers fields
     ∷ [])
@@ -165,6 +166,7 @@ session_values_fault version_two names session fields = first_fault
     ((not (is_file_name (text Circuit fields)) answers BadFileName session)
     ∷ (is_none (layout_of version_two (text Layout fields)) answers BadLayout session)
     ∷ (is_none (products_in fields) answers BadProducts session)
+    ∷ (is_none (layered_gates_in fields) answers BadOrder session)
     ∷ owners_fault version_two names session 0 (texts Owners fields)
     ∷ option_map (λ bad. BadReader session bad.0 bad.1)
     (bad_in_lists names 0 (lists Readers fields))

@@ -7,7 +7,7 @@ use Rattle.toml.specs.Data.{Data, Members}
 use Rattle.toml_fields.specs.Fields.{has_field, integer_at, text_at, items_at, texts_at, texts_of, fields_of}
 use Rattle.party_names.specs.Names.{party_named}
 use Rattle.job_file.specs.declared.field.JobField.{JobField}
-use Rattle.job_file.specs.declared.field.JobField.TheVariants.{Version, RingBits, Parties, Formula, Tolerated, Hosts, Port, Frames, Views, Session, Circuit, Layout, Products as ProductsField, Owners, Readers}
+use Rattle.job_file.specs.declared.field.JobField.TheVariants.{Version, RingBits, Parties, Formula, Tolerated, Hosts, Port, Frames, Views, Session, Circuit, Layout, Products as ProductsField, Order, Owners, Readers}
 use Rattle.job_file.specs.declared.layout.SessionLayout.{SessionLayout}
 use Rattle.job_file.specs.declared.layout.SessionLayout.TheVariants.{Gates}
 use Rattle.circuit_model.specs.declared.layout.CircuitLayout.TheVariants.{Ring}
@@ -15,17 +15,18 @@ use Rattle.job_file.specs.declared.owner.JobOwner.{JobOwner}
 use Rattle.job_file.specs.declared.owner.JobOwner.TheVariants.{Party}
 use Rattle.job_file.specs.declared.products.Products.{Products}
 use Rattle.job_file.specs.declared.products.Products.TheVariants.{Direct}
-use Rattle.job_file.specs.Names.{field_text, layout_of, are_short, are_own}
+use Rattle.job_file.specs.Names.{field_text, layout_of, are_layered, are_short, are_own}
 use Rattle.job_file.specs.Owners.{owner_in}
 use Rattle.job_file.specs.Products.{products_named}
 use Rattle.party_set.specs.Parties.{with_party}
 
--- a session: the file of its circuit and what that has, how its products are made, what gives each input value,
--- and for each output value the mask of the parties that read it
+-- a session: the file of its circuit and what that has, how its products are made, whether its gates go in layers,
+-- what gives each input value, and for each output value the mask of the parties that read it
 pub record SessionForm : Type 0 where
   pub circuit : List ℕ
   pub layout : SessionLayout
   pub products : Products
+  pub layered_gates : Bool
   pub owners : List JobOwner
   pub readers : List ℕ
 
@@ -86,6 +87,10 @@ unfoldable pub products_in : Members → Option Products
 products_in fields =
     if has_field (field_text ProductsField) fields then products_named (text ProductsField fields) else Some Direct
 
+-- whether the gates of a session go in layers: they keep the file's order where no field tells
+unfoldable pub layered_gates_in : Members → Option Bool
+layered_gates_in fields = if has_field (field_text Order) fields then are_layered (text Order fields) else Some false
+
 -- whether frames between nodes are short: they name their messages where no field tells
 unfoldable pub short_frames_in : Members → Option Bool
 short_frames_in fields = if has_field (field_text Frames) fields then are_short (text Frames fields) else Some false
@@ -112,6 +117,7 @@ session_form version_two names session fields = record {
   circuit = text Circuit fields;
   layout = unwrap_or (layout_of version_two (text Layout fields)) (Gates Ring);
   products = unwrap_or (products_in fields) Direct;
+  layered_gates = unwrap_or (layered_gates_in fields) false;
   owners = map (owner_of version_two names session) (texts Owners fields);
   readers = map (mask_of names) (lists Readers fields);
 }

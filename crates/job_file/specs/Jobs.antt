@@ -15,6 +15,7 @@ session_view session = record {
   circuit = session.circuit;
   layout = session.layout;
   products = session.products;
+  layered_gates = session.layered_gates;
   owners = session.owners.items;
   readers = map (λ (group : Members). group.mask) session.readers.items;
 }

@@ -6,7 +6,7 @@ use Rattle.std.specs.Str.{bytes_eq}
 use Rattle.toml_fields.specs.declared.kind.Kind.{Kind}
 use Rattle.toml_fields.specs.declared.kind.Kind.TheVariants.{Integer, Text, Texts, TextLists, Tables}
 use Rattle.job_file.specs.declared.field.JobField.{JobField}
-use Rattle.job_file.specs.declared.field.JobField.TheVariants.{Version, RingBits, Parties, Formula, Tolerated, Hosts, Port, Frames, Views, Session, Circuit, Layout, Products, Owners, Readers}
+use Rattle.job_file.specs.declared.field.JobField.TheVariants.{Version, RingBits, Parties, Formula, Tolerated, Hosts, Port, Frames, Views, Session, Circuit, Layout, Products, Order, Owners, Readers}
 use Rattle.job_file.specs.declared.layout.SessionLayout.{SessionLayout}
 use Rattle.job_file.specs.declared.layout.SessionLayout.TheVariants.{Gates, Expressions}
 use Rattle.job_file.specs.declared.limits.TheConstants.{LONGEST_FILE_NAME, LONGEST_HOST}
@@ -27,6 +27,7 @@ field_text Session = codes "session"
 field_text Circuit = codes "circuit"
 field_text Layout = codes "layout"
 field_text Products = codes "products"
+field_text Order = codes "order"
 field_text Owners = codes "owners"
 field_text Readers = codes "readers"
 
@@ -44,6 +45,7 @@ field_kind Session = Tables
 field_kind Circuit = Text
 field_kind Layout = Text
 field_kind Products = Text
+field_kind Order = Text
 field_kind Owners = Texts
 field_kind Readers = TextLists
 
@@ -55,7 +57,7 @@ top_fields version_two adversary =
 
 -- the fields of a session, in a file of version 2 or not
 abbrev pub session_fields : Bool → List JobField
-session_fields version_two = Circuit ∷ Layout ∷ Owners ∷ Readers ∷ (if version_two then Products ∷ [] else [])
+session_fields version_two = Circuit ∷ Layout ∷ Owners ∷ Readers ∷ (if version_two then Products ∷ Order ∷ [] else [])
 
 -- a letter, a digit, `.`, `_` or `-`
 abbrev pub is_file_byte : ℕ → Bool
@@ -81,6 +83,13 @@ layout_of version_two name =
     if bytes_eq name (codes "bristol") then Some (Gates Bristol)
     else if bytes_eq name (codes "ring") then Some (Gates Ring)
     else if version_two && bytes_eq name (codes "expr") then Some Expressions
+    else None
+
+-- whether this text, file or layers, says that gates go in layers
+unfoldable pub are_layered : List ℕ → Option Bool
+are_layered name =
+    if bytes_eq name (codes "file") then Some false
+    else if bytes_eq name (codes "layers") then Some true
     else None
 
 -- whether this text, named or short, says that frames are short

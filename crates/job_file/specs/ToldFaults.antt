@@ -6,7 +6,7 @@ use Rattle.party_names.specs.declared.names.NamesFault.TheVariants.{BadName, Twi
 use Rattle.job_file.specs.Names.{field_text}
 use Rattle.job_file.specs.declared.field.JobField.{JobField}
 use Rattle.job_file.specs.declared.fault.JobFault.{JobFault}
-use Rattle.job_file.specs.declared.fault.JobFault.TheVariants.{NotToml, Version, Missing, Unknown, WrongKind, BadRing, Names, SessionCount, BadFileName, BadLayout, BadProducts, BadOwner, BadCarry, BadReader, BadHost, BadPort, BadFrames, BadViews, BadTolerated, TooManyTolerated, Memory}
+use Rattle.job_file.specs.declared.fault.JobFault.TheVariants.{NotToml, Version, Missing, Unknown, WrongKind, BadRing, Names, SessionCount, BadFileName, BadLayout, BadProducts, BadOrder, BadOwner, BadCarry, BadReader, BadHost, BadPort, BadFrames, BadViews, BadTolerated, TooManyTolerated, Memory}
 
 -- the part that refuses: the file's own text, or the parties' names
 abbrev pub fault_part : JobFault → List ℕ
@@ -51,5 +51,6 @@ told_job_fault (BadProducts session) = fault 17 (codes "BadProducts") (in_sessio
 told_job_fault (BadCarry session at) = fault 18 (codes "BadCarry") (in_session (Some session) ++ at_place at)
 told_job_fault BadFrames = fault 19 (codes "BadFrames") []
 told_job_fault BadViews = fault 20 (codes "BadViews") []
+told_job_fault (BadOrder session) = fault 22 (codes "BadOrder") (in_session (Some session))
 told_job_fault (Names f) = told_names_fault f
 told_job_fault Memory = fault 0 (codes "Memory") []

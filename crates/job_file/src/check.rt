@@ -4,7 +4,7 @@ ghost use Rattle.std.specs.Option.{option_map};
 ghost use Rattle.toml_fields.specs.Keys.{least_unknown};
 ghost use Rattle.toml.specs.View.{table_view};
 ghost use Rattle.job_file.specs.Names.{top_fields, session_fields};
-ghost use Rattle.job_file.specs.Forms.{is_version_two, adversary_field, products_in, short_frames_in, own_views_in};
+ghost use Rattle.job_file.specs.Forms.{is_version_two, adversary_field, products_in, layered_gates_in, short_frames_in, own_views_in};
 ghost use Rattle.job_file.specs.Faults.{is_there, is_of_other_kind, required_fault, optional_fault, node_fault, unknown_fault};
 ghost use Rattle.job_file.specs.Answers.{TellsFault, TellsOrMemory};
 ghost use Rattle.list_laws.specs.Checks.{◌answers◌};
@@ -13,7 +13,7 @@ ghost use Rattle.job_file.specs.declared.fault.JobFault.TheVariants.{Unknown};
 use crate::fault::JobFault;
 use crate::field::JobField;
 use crate::products::Products;
-use crate::texts::{are_own, are_short, products_named};
+use crate::texts::{are_layered, are_own, are_short, products_named};
 use party_names::NameText;
 use std::alloc::{AllocError, Global};
 use toml::Table;
@@ -128,6 +128,19 @@ pub fn products_in(table: &Table) -> Option<Products>
     }
 }
 
+/// Whether the gates of a session go in layers, by the text that tells it: they keep the file's order where no field
+/// tells.
+#[tactic(auto, unfolding(crate::specs::Forms::layered_gates_in))]
+pub fn layered_gates_in(table: &Table) -> Option<bool>
+    ensures { result ≡ layered_gates_in (table_view table.now) }
+{
+    if is_there(table, JobField::Order) {
+        are_layered(text_at(table, JobField::Order.text()))
+    } else {
+        Some(false)
+    }
+}
+
 /// Whether frames between nodes are short, by the text that tells it: they name their messages where no field tells.
 #[tactic(auto, unfolding(crate::specs::Forms::short_frames_in))]
 pub fn short_frames_in(table: &Table) -> Option<bool>
@@ -194,6 +207,7 @@ pub fn check_session_known(
         JobField::Owners.text(),
         JobField::Readers.text(),
         JobField::Products.text(),
+        JobField::Order.text(),
     ];
     if version_two {
         check_known(alloc, table, Some(session), &fields)

@@ -63,6 +63,10 @@ pub enum JobFault {
     BadProducts {
         session: u32,
     },
+    /// The text that tells the order of gates is neither of its two.
+    BadOrder {
+        session: u32,
+    },
     /// There is no session, or there are more than 16.
     SessionCount {
         count: u64,

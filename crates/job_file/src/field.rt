@@ -20,6 +20,7 @@ pub enum JobField {
     Circuit,
     Layout,
     Products,
+    Order,
     Owners,
     Readers,
 }
@@ -44,6 +45,7 @@ impl JobField {
             JobField::Circuit => "circuit",
             JobField::Layout => "layout",
             JobField::Products => "products",
+            JobField::Order => "order",
             JobField::Owners => "owners",
             JobField::Readers => "readers",
         }
@@ -61,7 +63,8 @@ impl JobField {
             | JobField::Views
             | JobField::Circuit
             | JobField::Layout
-            | JobField::Products => Kind::Text,
+            | JobField::Products
+            | JobField::Order => Kind::Text,
             JobField::Parties | JobField::Hosts | JobField::Owners => Kind::Texts,
             JobField::Tolerated | JobField::Readers => Kind::TextLists,
             JobField::Session => Kind::Tables,

@@ -17,13 +17,14 @@ pub enum Adversary {
     Tolerated(Vec<Group>),
 }
 
-/// A session of a job: the file of its circuit, how that tells it, how products are made, what gives each input
-/// value, and the group that reads each output value.
+/// A session of a job: the file of its circuit, how that tells it, how products are made, whether gates go in layers,
+/// what gives each input value, and the group that reads each output value.
 #[derive(Drop)]
 pub struct JobSession {
     pub circuit: NameText,
     pub layout: SessionLayout,
     pub products: Products,
+    pub layered_gates: bool,
     pub owners: Vec<JobOwner>,
     pub readers: Vec<Group>,
 }

@@ -8,7 +8,9 @@ ghost use Rattle.job_file.specs.Answers.{TellsFault, TellsOrMemory};
 ghost use Rattle.job_file.specs.Faults.{session_fields_fault, session_values_fault, sessions_fault, owner_fault, owners_fault, bad_in_lists};
 ghost use Rattle.job_file.specs.declared.fault.JobFault.TheVariants.{BadReader};
 
-use crate::check::{check, check_optional, check_required, check_session_known, products_in};
+use crate::check::{
+    check, check_optional, check_required, check_session_known, layered_gates_in, products_in,
+};
 use crate::fault::JobFault;
 use crate::field::JobField;
 use crate::owner::{is_carry, owner_in};
@@ -33,6 +35,7 @@ fn check_fields(
     check_required(table, Some(session), JobField::Circuit)?;
     check_required(table, Some(session), JobField::Layout)?;
     check_optional(table, Some(session), JobField::Products)?;
+    check_optional(table, Some(session), JobField::Order)?;
     check_required(table, Some(session), JobField::Owners)?;
     check_required(table, Some(session), JobField::Readers)?;
     Ok(())
@@ -54,6 +57,10 @@ fn check_values(
     check(
         products_in(table).is_none(),
         JobFault::BadProducts { session },
+    )?;
+    check(
+        layered_gates_in(table).is_none(),
+        JobFault::BadOrder { session },
     )?;
     check_owners(
         items_at(table, JobField::Owners.text()),

@@ -1,7 +1,7 @@
 //! The texts that a job's file may give.
 ghost use Rattle.std.specs.Prelude.{◌≡◌};
 ghost use Rattle.std.specs.List.{list_all};
-ghost use Rattle.job_file.specs.Names.{is_file_byte, is_file_name, is_host_byte, is_host, layout_of, are_short, are_own};
+ghost use Rattle.job_file.specs.Names.{is_file_byte, is_file_name, is_host_byte, is_host, layout_of, are_layered, are_short, are_own};
 ghost use Rattle.job_file.specs.Products.{products_named};
 
 use crate::layout::SessionLayout;
@@ -79,6 +79,18 @@ pub fn products_named(name: &str) -> Option<Products>
         "direct" => Some(Products::Direct),
         "prepared" => Some(Products::Prepared),
         "ahead" => Some(Products::Ahead),
+        _ => None,
+    }
+}
+
+/// Whether this text, file or layers, says that gates go in layers.
+#[tactic(auto, unfolding(crate::specs::Names::are_layered))]
+pub fn are_layered(name: &str) -> Option<bool>
+    ensures { result ≡ are_layered name.now }
+{
+    match name {
+        "file" => Some(false),
+        "layers" => Some(true),
         _ => None,
     }
 }

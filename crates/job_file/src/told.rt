@@ -47,6 +47,7 @@ impl JobFault {
             JobFault::BadCarry { session, at } => of_owner(18, "BadCarry", *session, *at),
             JobFault::BadFrames => Entry::new(19, "BadFrames"),
             JobFault::BadViews => Entry::new(20, "BadViews"),
+            JobFault::BadOrder { session } => of_session(22, "BadOrder", *session),
             JobFault::Names { fault } => told_names(*fault),
             JobFault::Memory => Entry::new(0, "Memory"),
         }

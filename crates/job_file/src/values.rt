@@ -9,7 +9,9 @@ ghost use Rattle.job_file.specs.Faults.{ring_fault, port_fault};
 ghost use Rattle.job_file.specs.Jobs.{session_view, adversary_view, job_view, HasParties, IsSession, AreSessions, IsJob};
 ghost use Rattle.job_file.specs.declared.field.JobField.TheVariants.{RingBits, Parties, Port, Session};
 
-use crate::check::{is_there, is_version_two, own_views_in, products_in, short_frames_in};
+use crate::check::{
+    is_there, is_version_two, layered_gates_in, own_views_in, products_in, short_frames_in,
+};
 use crate::field::JobField;
 use crate::job::{Adversary, Job, JobSession};
 use crate::layout::SessionLayout;
@@ -120,6 +122,7 @@ fn session_of(
         SessionLayout::Gates(CircuitLayout::Ring),
     );
     let products = products_in(table).unwrap_or(Products::Direct);
+    let layered_gates = layered_gates_in(table).unwrap_or(false);
     let owners = items_at(table, JobField::Owners.text());
     let owners = owners_of(alloc, owners, version_two, number, names)?;
     let readers = groups_of(alloc, items_at(table, JobField::Readers.text()), names)?;
@@ -127,6 +130,7 @@ fn session_of(
         circuit,
         layout,
         products,
+        layered_gates,
         owners,
         readers,
     })

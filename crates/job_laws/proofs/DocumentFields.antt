@@ -8,7 +8,7 @@ use Rattle.std.proofs.lemmas.Slice.Eq.{bytes_eq-Decides}
 use Rattle.toml.specs.Data.{Data, Members, no_members, member, depth, get_member, is_before, members_depth, members_have_valid_dates, members_are_sorted}
 use Rattle.toml_fields.specs.Keys.{is_known, lesser, least_unknown}
 use Rattle.job_file.specs.declared.field.JobField.{JobField}
-use Rattle.job_file.specs.declared.field.JobField.TheVariants.{Version, RingBits, Parties, Formula, Tolerated, Hosts, Port, Frames, Views, Session, Circuit, Layout, Products, Owners, Readers}
+use Rattle.job_file.specs.declared.field.JobField.TheVariants.{Version, RingBits, Parties, Formula, Tolerated, Hosts, Port, Frames, Views, Session, Circuit, Layout, Products, Order, Owners, Readers}
 use Rattle.job_file.specs.Names.{field_text}
 use Rattle.job_laws.specs.Documents.{with_field}
 use Rattle.job_laws.proofs.DocumentShapes.{IsPlain, max_below}
@@ -252,7 +252,7 @@ module _ (formula frames hosts port tolerated views : Option Data) (parties bits
 
 -- ---- the table of a session
 
-module _ (circuit layout owners : Data) (products : Option Data) (readers : Data) where
+module _ (circuit layout : Data) (order : Option Data) (owners : Data) (products : Option Data) (readers : Data) where
   abbrev from_readers : Members
   from_readers = with_field Readers (Some readers) no_members
 
@@ -262,8 +262,11 @@ module _ (circuit layout owners : Data) (products : Option Data) (readers : Data
   abbrev from_owners : Members
   from_owners = with_field Owners (Some owners) from_products
 
+  abbrev from_order : Members
+  from_order = with_field Order order from_owners
+
   abbrev from_layout : Members
-  from_layout = with_field Layout (Some layout) from_owners
+  from_layout = with_field Layout (Some layout) from_order
 
   abbrev pub session_table : Members
   session_table = with_field Circuit (Some circuit) from_layout
@@ -274,38 +277,47 @@ module _ (circuit layout owners : Data) (products : Option Data) (readers : Data
 
   pub at_layout : value_of Layout session_table ≡ Some layout
   unfolding field_text
-  at_layout = past Layout Circuit (Some circuit) from_layout refl ∙ here Layout layout from_owners refl
+  at_layout = past Layout Circuit (Some circuit) from_layout refl ∙ here Layout layout from_order refl
+
+  pub at_order : value_of Order session_table ≡ order
+  unfolding field_text
+  at_order =
+      past Order Circuit (Some circuit) from_layout refl ∙ past Order Layout (Some layout) from_order refl
+      ∙ here_or Order order from_owners refl
+      (past Order Owners (Some owners) from_products refl ∙ past Order Products products from_readers refl ∙ past Order Readers (Some readers) no_members refl)
 
   pub at_owners : value_of Owners session_table ≡ Some owners
   unfolding field_text
-  at_owners = past Owners Circuit (Some circuit) from_layout refl ∙ past Owners Layout (Some layout) from_owners refl ∙ here Owners owners from_products refl
+  at_owners = past Owners Circuit (Some circuit) from_layout refl ∙ past Owners Layout (Some layout) from_order refl ∙ past Owners Order order from_owners refl ∙ here Owners owners from_products refl
 
   pub at_products : value_of Products session_table ≡ products
   unfolding field_text
   at_products =
-      past Products Circuit (Some circuit) from_layout refl ∙ past Products Layout (Some layout) from_owners refl ∙ past Products Owners (Some owners) from_products refl
+      past Products Circuit (Some circuit) from_layout refl ∙ past Products Layout (Some layout) from_order refl ∙ past Products Order order from_owners refl ∙ past Products Owners (Some owners) from_products refl
       ∙ here_or Products products from_readers refl (past Products Readers (Some readers) no_members refl)
 
   pub at_readers : value_of Readers session_table ≡ Some readers
   unfolding field_text
   at_readers =
-      past Readers Circuit (Some circuit) from_layout refl ∙ past Readers Layout (Some layout) from_owners refl ∙ past Readers Owners (Some owners) from_products refl
+      past Readers Circuit (Some circuit) from_layout refl ∙ past Readers Layout (Some layout) from_order refl ∙ past Readers Order order from_owners refl ∙ past Readers Owners (Some owners) from_products refl
       ∙ past Readers Products products from_readers refl ∙ here Readers readers no_members refl
 
-  pub session_plain : IsPlain 2 circuit → IsPlain 2 layout → IsPlain 2 owners → IfSome products (IsPlain 2) → IsPlain 2 readers → AreFields 2 session_table
+  pub session_plain : IsPlain 2 circuit → IsPlain 2 layout → IfSome order (IsPlain 2) → IsPlain 2 owners → IfSome products (IsPlain 2) → IsPlain 2 readers → AreFields 2 session_table
   unfolding field_text
-  session_plain c l o p r =
+  session_plain c l w o p r =
       one_more 2 Circuit (Some circuit) from_layout c refl
-      (one_more 2 Layout (Some layout) from_owners l refl
+      (one_more 2 Layout (Some layout) from_order l (before Layout Order order from_owners refl refl)
+      (one_more 2 Order order from_owners w refl
       (one_more 2 Owners (Some owners) from_products o (before Owners Products products from_readers refl refl)
       (one_more 2 Products products from_readers p refl
-      (one_more 2 Readers (Some readers) no_members r refl (no_more 2)))))
+      (one_more 2 Readers (Some readers) no_members r refl (no_more 2))))))
 
-  pub session_known : (names : List (List ℕ)) → is_known names (field_text Circuit) ≡ true → is_known names (field_text Layout) ≡ true → is_known names (field_text Owners) ≡ true
-      → IfSome products (λ d. is_known names (field_text Products) ≡ true) → is_known names (field_text Readers) ≡ true → least_unknown names session_table ≡ None
-  session_known names c l o p r =
+  pub session_known : (names : List (List ℕ)) → is_known names (field_text Circuit) ≡ true → is_known names (field_text Layout) ≡ true → IfSome order (λ d. is_known names (field_text Order) ≡ true)
+      → is_known names (field_text Owners) ≡ true → IfSome products (λ d. is_known names (field_text Products) ≡ true) → is_known names (field_text Readers) ≡ true → least_unknown names session_table ≡ None
+  session_known names c l w o p r =
       known names Circuit (Some circuit) from_layout c
-      (known names Layout (Some layout) from_owners l
+      (known names Layout (Some layout) from_order l
+      (known_if names Order order from_owners w
       (known names Owners (Some owners) from_products o
       (known_if names Products products from_readers p
-      (known names Readers (Some readers) no_members r (none_known names)))))
+      (known names Readers (Some readers) no_members r (none_known names))))))

@@ -21,7 +21,7 @@ use Rattle.party_names.specs.Names.{names_fault, AreNames}
 use Rattle.party_names.proofs.NameFaults.{no_fault_from}
 use Rattle.circuit_model.specs.declared.layout.CircuitLayout.TheVariants.{Bristol, Ring}
 use Rattle.job_file.specs.declared.field.JobField.{JobField}
-use Rattle.job_file.specs.declared.field.JobField.TheVariants.{Version, RingBits, Parties, Formula, Tolerated, Hosts, Port, Frames, Views, Session, Circuit, Layout, Products as ProductsField, Owners, Readers}
+use Rattle.job_file.specs.declared.field.JobField.TheVariants.{Version, RingBits, Parties, Formula, Tolerated, Hosts, Port, Frames, Views, Session, Circuit, Layout, Products as ProductsField, Order, Owners, Readers}
 use Rattle.job_file.specs.declared.fault.JobFault.{JobFault}
 use Rattle.job_file.specs.declared.fault.JobFault.TheVariants.{NotToml, Unknown}
 use Rattle.job_file.specs.declared.layout.SessionLayout.{SessionLayout}
@@ -29,11 +29,11 @@ use Rattle.job_file.specs.declared.layout.SessionLayout.TheVariants.{Gates, Expr
 use Rattle.job_file.specs.declared.products.Products.{Products}
 use Rattle.job_file.specs.declared.products.Products.TheVariants.{Direct, Prepared, Ahead}
 use Rattle.job_file.specs.Products.{are_prepared, products_named}
-use Rattle.job_file.specs.Names.{field_text, field_kind, top_fields, session_fields, is_file_name, is_host, layout_of, are_short, are_own}
+use Rattle.job_file.specs.Names.{field_text, field_kind, top_fields, session_fields, is_file_name, is_host, layout_of, are_layered, are_short, are_own}
 use Rattle.job_file.specs.Forms as forms
-use Rattle.job_file.specs.Forms.{JobForm, SessionForm, AdversaryForm, by_formula, by_list, is_version_two, adversary_field, products_in, short_frames_in, own_views_in, owner_of, session_form, session_forms, adversary_form, job_form, mask_of}
+use Rattle.job_file.specs.Forms.{JobForm, SessionForm, AdversaryForm, by_formula, by_list, is_version_two, adversary_field, products_in, layered_gates_in, short_frames_in, own_views_in, owner_of, session_form, session_forms, adversary_form, job_form, mask_of}
 use Rattle.job_file.specs.Faults.{bad_in_lists, owners_fault, is_within, required_fault, optional_fault, unknown_fault, version_fault, fields_fault, ring_fault, parties_fault, groups_fault, adversary_fault, count_fault, hosts_fault, port_fault, frames_fault, views_fault, node_fault, session_fields_fault, session_values_fault, sessions_fault, job_fault, job_in}
-use Rattle.job_laws.specs.Documents.{texts_data, groups_data, member_names, layout_text, choice_data, products_data, session_fields_of, sessions_data, version_data, formula_data, tolerated_data, hosts_data, port_data, frames_data, views_data, document_of_job, owner_text, HasLayout, HasChoice, IsSessionForm, AreSessionForms, HasGroups, AreHosts, HasPeers, IsJobForm, DocumentsSayTheirJobs}
+use Rattle.job_laws.specs.Documents.{texts_data, groups_data, member_names, layout_text, choice_data, products_data, order_data, session_fields_of, sessions_data, version_data, formula_data, tolerated_data, hosts_data, port_data, frames_data, views_data, document_of_job, owner_text, HasLayout, HasChoice, IsSessionForm, AreSessionForms, HasGroups, AreHosts, HasPeers, IsJobForm, DocumentsSayTheirJobs}
 use Rattle.job_laws.proofs.MemberNames.{good_lists, masks_back}
 use Rattle.job_laws.proofs.OwnerTexts.{two_of, owners_back, owners_pass}
 use Rattle.job_laws.proofs.DocumentShapes.{IsPlain, string_plain, texts_plain, groups_plain, list_plain, texts_listed, groups_back, sessions_back, items_back, length_same, are_texts, are_groups, are_sessions, nowhere}
@@ -144,34 +144,51 @@ products_back Direct ms at = ap (λ told. cond told (products_named (forms.text 
 products_back Prepared ms at = products_told (codes "prepared") ms at
 products_back Ahead ms at = products_told (codes "ahead") ms at
 
+order_known : (adversary : AdversaryForm) (layered : Bool) → HasChoice adversary layered
+    → IfSome (order_data layered) (λ d. is_known (map field_text (session_fields (two_of adversary))) (field_text Order) ≡ true)
+unfolding field_text
+order_known (by_formula text) true h = absurd h
+order_known (by_formula text) false h = tt
+order_known (by_list masks) true h = refl
+order_known (by_list masks) false h = tt
+
+order_back : (layered : Bool) (ms : Members) → value_of Order ms ≡ order_data layered → layered_gates_in ms ≡ Some layered
+unfolding layered_gates_in are_layered
+order_back true ms at = ap₂ (λ told text. cond told (are_layered text) (Some false)) (there Order ms _ at) (text_is Order ms (codes "layers") at)
+order_back false ms at = ap (λ told. cond told (are_layered (forms.text Order ms)) (Some false)) (not_there Order ms at)
+
 module _ (names : List (List ℕ)) (are : AreNames names) (adversary : AdversaryForm) (n : ℕ) (early : n ≤ 16) (s : SessionForm) (is : IsSessionForm (length names) adversary n s) where
   abbrev ms : Members
   ms = session_fields_of names s
 
   at_circuit : value_of Circuit ms ≡ Some (string s.circuit)
-  at_circuit = table_of.at_circuit (string s.circuit) (string (layout_text s.layout)) (texts_data (map (owner_text names) s.owners)) (products_data s.products) (groups_data names s.readers)
+  at_circuit = table_of.at_circuit (string s.circuit) (string (layout_text s.layout)) (order_data s.layered_gates) (texts_data (map (owner_text names) s.owners)) (products_data s.products) (groups_data names s.readers)
 
   at_layout : value_of Layout ms ≡ Some (string (layout_text s.layout))
-  at_layout = table_of.at_layout (string s.circuit) (string (layout_text s.layout)) (texts_data (map (owner_text names) s.owners)) (products_data s.products) (groups_data names s.readers)
+  at_layout = table_of.at_layout (string s.circuit) (string (layout_text s.layout)) (order_data s.layered_gates) (texts_data (map (owner_text names) s.owners)) (products_data s.products) (groups_data names s.readers)
 
   at_owners : value_of Owners ms ≡ Some (texts_data (map (owner_text names) s.owners))
-  at_owners = table_of.at_owners (string s.circuit) (string (layout_text s.layout)) (texts_data (map (owner_text names) s.owners)) (products_data s.products) (groups_data names s.readers)
+  at_owners = table_of.at_owners (string s.circuit) (string (layout_text s.layout)) (order_data s.layered_gates) (texts_data (map (owner_text names) s.owners)) (products_data s.products) (groups_data names s.readers)
 
   at_products : value_of ProductsField ms ≡ products_data s.products
-  at_products = table_of.at_products (string s.circuit) (string (layout_text s.layout)) (texts_data (map (owner_text names) s.owners)) (products_data s.products) (groups_data names s.readers)
+  at_products = table_of.at_products (string s.circuit) (string (layout_text s.layout)) (order_data s.layered_gates) (texts_data (map (owner_text names) s.owners)) (products_data s.products) (groups_data names s.readers)
+
+  at_order : value_of Order ms ≡ order_data s.layered_gates
+  at_order = table_of.at_order (string s.circuit) (string (layout_text s.layout)) (order_data s.layered_gates) (texts_data (map (owner_text names) s.owners)) (products_data s.products) (groups_data names s.readers)
 
   at_readers : value_of Readers ms ≡ Some (groups_data names s.readers)
-  at_readers = table_of.at_readers (string s.circuit) (string (layout_text s.layout)) (texts_data (map (owner_text names) s.owners)) (products_data s.products) (groups_data names s.readers)
+  at_readers = table_of.at_readers (string s.circuit) (string (layout_text s.layout)) (order_data s.layered_gates) (texts_data (map (owner_text names) s.owners)) (products_data s.products) (groups_data names s.readers)
 
   fields_pass : session_fields_fault (two_of adversary) n ms ≡ None
   unfolding session_fields_fault unknown_fault field_text field_kind is_of_kind
-  fields_pass = then_none (no_map _ (table_of.session_known (string s.circuit) (string (layout_text s.layout)) (texts_data (map (owner_text names) s.owners)) (products_data s.products) (groups_data names s.readers) (map field_text (session_fields (two_of adversary))) refl refl refl (products_known adversary s.products is.products) refl))
+  fields_pass = then_none (no_map _ (table_of.session_known (string s.circuit) (string (layout_text s.layout)) (order_data s.layered_gates) (texts_data (map (owner_text names) s.owners)) (products_data s.products) (groups_data names s.readers) (map field_text (session_fields (two_of adversary))) refl refl (order_known adversary s.layered_gates is.order) refl (products_known adversary s.products is.products) refl))
       (then_none (required (Some n) Circuit ms _ at_circuit refl)
       (then_none (required (Some n) Layout ms _ at_layout refl)
       (then_none (optional (Some n) ProductsField ms _ at_products (products_kind s.products))
+      (then_none (optional (Some n) Order ms _ at_order (choice_kind (codes "layers") s.layered_gates))
       (then_none (required (Some n) Owners ms _ at_owners (are_texts (map (owner_text names) s.owners)))
       (then_none (required (Some n) Readers ms _ at_readers (are_groups names s.readers))
-      refl)))))
+      refl))))))
 
   layout_is : layout_of (two_of adversary) (forms.text Layout ms) ≡ Some s.layout
   layout_is = ap (layout_of (two_of adversary)) (text_is Layout ms (layout_text s.layout) at_layout) ∙ layout_back adversary s.layout is.layout
@@ -179,17 +196,21 @@ module _ (names : List (List ℕ)) (are : AreNames names) (adversary : Adversary
   products_are : products_in ms ≡ Some s.products
   products_are = products_back s.products ms at_products
 
+  order_is : layered_gates_in ms ≡ Some s.layered_gates
+  order_is = order_back s.layered_gates ms at_order
+
   values_pass : session_values_fault (two_of adversary) names n ms ≡ None
   unfolding session_values_fault
   values_pass = then_none (passed _ (ap (λ text. not (is_file_name text)) (text_is Circuit ms s.circuit at_circuit) ∙ ap not is.circuit))
       (then_none (passed _ (ap is_none layout_is))
       (then_none (passed _ (ap is_none products_are))
+      (then_none (passed _ (ap is_none order_is))
       (then_none (ap (owners_fault (two_of adversary) names n 0) (texts_are Owners ms (map (owner_text names) s.owners) at_owners) ∙ owners_pass names are n early adversary 0 s.owners is.owners is.carries)
       (then_none (no_map _ (ap (bad_in_lists names 0) (lists_are Readers ms names s.readers at_readers) ∙ good_lists names are 0 s.readers))
-      refl))))
+      refl)))))
 
-  same_session : (a b : SessionForm) → a.circuit ≡ b.circuit → a.layout ≡ b.layout → a.products ≡ b.products → a.owners ≡ b.owners → a.readers ≡ b.readers → a ≡ b
-  same_session a b c l p o r i = record { circuit = c i; layout = l i; products = p i; owners = o i; readers = r i }
+  same_session : (a b : SessionForm) → a.circuit ≡ b.circuit → a.layout ≡ b.layout → a.products ≡ b.products → a.layered_gates ≡ b.layered_gates → a.owners ≡ b.owners → a.readers ≡ b.readers → a ≡ b
+  same_session a b c l p w o r i = record { circuit = c i; layout = l i; products = p i; layered_gates = w i; owners = o i; readers = r i }
 
   session_back : session_form (two_of adversary) names n ms ≡ s
   unfolding session_form
@@ -197,6 +218,7 @@ module _ (names : List (List ℕ)) (are : AreNames names) (adversary : Adversary
       (text_is Circuit ms s.circuit at_circuit)
       (ap (λ o. unwrap_or o (Gates Ring)) layout_is)
       (ap (λ o. unwrap_or o Direct) products_are)
+      (ap (λ o. unwrap_or o false) order_is)
       (ap (map (owner_of (two_of adversary) names n)) (texts_are Owners ms (map (owner_text names) s.owners) at_owners) ∙ owners_back names are n early adversary s.owners is.owners is.carries)
       (ap (map (mask_of names)) (lists_are Readers ms names s.readers at_readers) ∙ masks_back names are s.readers is.readers)
 
@@ -560,7 +582,7 @@ module _ (node : Bool) (job : JobForm) (is : IsJobForm node job) where
 
   session_plain : (s : SessionForm) → IsPlain 3 (table (session_fields_of job.names s))
   session_plain s =
-      let all = table_of.session_plain (string s.circuit) (string (layout_text s.layout)) (texts_data (map (owner_text job.names) s.owners)) (products_data s.products) (groups_data job.names s.readers) (wider 0 2 _ (omega arith) (string_plain s.circuit)) (wider 0 2 _ (omega arith) (string_plain (layout_text s.layout)))
+      let all = table_of.session_plain (string s.circuit) (string (layout_text s.layout)) (order_data s.layered_gates) (texts_data (map (owner_text job.names) s.owners)) (products_data s.products) (groups_data job.names s.readers) (wider 0 2 _ (omega arith) (string_plain s.circuit)) (wider 0 2 _ (omega arith) (string_plain (layout_text s.layout))) (choice_plain 2 (codes "layers") s.layered_gates)
       (wider 1 2 _ (omega arith) (texts_plain (map (owner_text job.names) s.owners))) (products_plain s.products) (groups_plain job.names s.readers) in
       record { deep = (let deep = all.deep in omega arith); dates = all.dates; sorted = all.sorted }
 

@@ -20,9 +20,9 @@ use Rattle.party_names.specs.Names.{party_named, names_fault, AreNames}
 use Rattle.party_names.proofs.NameFaults.{no_fault_tells}
 use Rattle.circuit_model.specs.declared.layout.CircuitLayout.TheVariants.{Bristol, Ring}
 use Rattle.job_file.specs.declared.field.JobField.{JobField}
-use Rattle.job_file.specs.declared.field.JobField.TheVariants.{RingBits, Parties, Formula, Tolerated, Hosts, Port, Frames, Views, Session, Circuit, Layout, Products as ProductsField, Owners, Readers}
+use Rattle.job_file.specs.declared.field.JobField.TheVariants.{RingBits, Parties, Formula, Tolerated, Hosts, Port, Frames, Views, Session, Circuit, Layout, Products as ProductsField, Order, Owners, Readers}
 use Rattle.job_file.specs.declared.fault.JobFault.{JobFault}
-use Rattle.job_file.specs.declared.fault.JobFault.TheVariants.{NotToml, BadRing, BadFileName, BadLayout, BadProducts, BadOwner, BadCarry, BadReader, BadHost, BadPort, BadTolerated, TooManyTolerated, Missing, Unknown, WrongKind, Names}
+use Rattle.job_file.specs.declared.fault.JobFault.TheVariants.{NotToml, BadRing, BadFileName, BadLayout, BadProducts, BadOrder, BadOwner, BadCarry, BadReader, BadHost, BadPort, BadTolerated, TooManyTolerated, Missing, Unknown, WrongKind, Names}
 use Rattle.job_file.specs.declared.layout.SessionLayout.TheVariants.{Gates, Expressions}
 use Rattle.job_file.specs.declared.owner.JobOwner.{JobOwner}
 use Rattle.job_file.specs.declared.owner.JobOwner.TheVariants.{Party}
@@ -30,8 +30,8 @@ use Rattle.job_file.specs.Owners.{is_carry, owner_in, IsOwner}
 use Rattle.job_file.specs.declared.products.Products.{Products}
 use Rattle.job_file.specs.declared.products.Products.TheVariants.{Direct}
 use Rattle.job_file.specs.Products.{are_prepared, products_named}
-use Rattle.job_file.specs.Names.{field_text, top_fields, session_fields, is_file_name, is_host, layout_of, are_short, are_own}
-use Rattle.job_file.specs.Forms.{JobForm, AdversaryForm, by_formula, by_list, integer, text, texts, items, lists, tables, is_version_two, adversary_field, products_in, short_frames_in, own_views_in, owner_of, session_form, session_forms, adversary_form, job_form, party_of, mask_of}
+use Rattle.job_file.specs.Names.{field_text, top_fields, session_fields, is_file_name, is_host, layout_of, are_layered, are_short, are_own}
+use Rattle.job_file.specs.Forms.{JobForm, AdversaryForm, by_formula, by_list, integer, text, texts, items, lists, tables, is_version_two, adversary_field, products_in, layered_gates_in, short_frames_in, own_views_in, owner_of, session_form, session_forms, adversary_form, job_form, party_of, mask_of}
 use Rattle.job_file.specs.Faults.{is_no_party, bad_name, bad_in_lists, owner_fault, owners_fault, is_there, is_of_other_kind, is_within, required_fault, optional_fault, unknown_fault, version_fault, fields_fault, ring_fault, parties_fault, groups_fault, adversary_fault, count_fault, hosts_fault, port_fault, frames_fault, views_fault, session_fields_fault, session_values_fault, sessions_fault, job_fault, job_in}
 use Rattle.job_file.proofs.Rows.{session_count}
 use Rattle.job_file.proofs.Owners.{named_below, owner_within}
@@ -137,6 +137,14 @@ products_fit (by_formula formula) s fields e =
     direct : (told : Option Products) → get_member (field_text ProductsField) fields ≡ None → HasChoice (by_formula formula) (are_prepared (unwrap_or (cond (is_some (get_member (field_text ProductsField) fields)) told (Some Direct)) Direct))
     direct told none = subst (λ (o : Option Data). HasChoice (by_formula formula) (are_prepared (unwrap_or (cond (is_some o) told (Some Direct)) Direct))) (sym none) tt
 
+-- nor of an order of gates
+order_fits : (adversary : AdversaryForm) (s : ℕ) (fields : Members) → unknown_fault (Some s) (session_fields (two_of adversary)) fields ≡ None → HasChoice adversary (unwrap_or (layered_gates_in fields) false)
+unfolding unknown_fault layered_gates_in has_field field_text
+order_fits (by_list masks) s fields e = tt
+order_fits (by_formula formula) s fields e =
+    let known = map_none (λ name. Unknown (Some s) name) (least_unknown (map field_text (session_fields false)) fields) e in
+    no_choice (by_formula formula) (get_member (field_text Order) fields) (are_layered (text Order fields)) (not_known (map field_text (session_fields false)) (field_text Order) fields refl known)
+
 -- an owner is told, where there is no fault
 told_within : (P : JobOwner → Type 0) (o : Option JobOwner) (fault : JobFault) → (is_none o answers fault) ≡ None → IfSome o P → P (unwrap_or o (Party 0))
 told_within P None fault e h = cc
@@ -169,7 +177,7 @@ module _ (adversary : AdversaryForm) (names : List (List ℕ)) where
   unfolding session_fields_fault
   fields_known s fields e =
       (head_passed (unknown_fault (Some s) (session_fields (two_of adversary)) fields)
-      (required_fault (Some s) Circuit fields ∷ required_fault (Some s) Layout fields ∷ optional_fault (Some s) ProductsField fields ∷ required_fault (Some s) Owners fields ∷ required_fault (Some s) Readers fields ∷ []) e).0
+      (required_fault (Some s) Circuit fields ∷ required_fault (Some s) Layout fields ∷ optional_fault (Some s) ProductsField fields ∷ optional_fault (Some s) Order fields ∷ required_fault (Some s) Owners fields ∷ required_fault (Some s) Readers fields ∷ []) e).0
 
   session_within : (s : ℕ) (fields : Members) → session_fields_fault (two_of adversary) s fields ≡ None → session_values_fault (two_of adversary) names s fields ≡ None → IsSessionForm (length names) adversary s (session_form (two_of adversary) names s fields)
   unfolding session_values_fault session_form
@@ -177,20 +185,23 @@ module _ (adversary : AdversaryForm) (names : List (List ℕ)) where
       let name : Option JobFault = not (is_file_name (text Circuit fields)) answers BadFileName s in
       let layout : Option JobFault = is_none (layout_of (two_of adversary) (text Layout fields)) answers BadLayout s in
       let products : Option JobFault = is_none (products_in fields) answers BadProducts s in
+      let order : Option JobFault = is_none (layered_gates_in fields) answers BadOrder s in
       let owners : Option JobFault = owners_fault (two_of adversary) names s 0 (texts Owners fields) in
       let readers : Option JobFault = option_map (λ bad. BadReader s bad.0 bad.1) (bad_in_lists names 0 (lists Readers fields)) in
-      let one = head_passed name (layout ∷ products ∷ owners ∷ readers ∷ []) e in
-      let two = head_passed layout (products ∷ owners ∷ readers ∷ []) one.1 in
-      let three = head_passed products (owners ∷ readers ∷ []) two.1 in
-      let four = head_passed owners (readers ∷ []) three.1 in
-      let five = head_passed readers [] four.1 in
+      let one = head_passed name (layout ∷ products ∷ order ∷ owners ∷ readers ∷ []) e in
+      let two = head_passed layout (products ∷ order ∷ owners ∷ readers ∷ []) one.1 in
+      let three = head_passed products (order ∷ owners ∷ readers ∷ []) two.1 in
+      let four = head_passed order (owners ∷ readers ∷ []) three.1 in
+      let five = head_passed owners (readers ∷ []) four.1 in
+      let six = head_passed readers [] five.1 in
       record {
         circuit = not_false (is_file_name (text Circuit fields)) (not_failed (not (is_file_name (text Circuit fields))) (BadFileName s) one.0);
         layout = layout_fits adversary (text Layout fields);
         products = products_fit adversary s fields (fields_known s fields there);
-        owners = owners_within (two_of adversary) names s 0 (texts Owners fields) four.0;
+        order = order_fits adversary s fields (fields_known s fields there);
+        owners = owners_within (two_of adversary) names s 0 (texts Owners fields) five.0;
         carries = owners_fit adversary names s (texts Owners fields);
-        readers = masks_below names 0 (lists Readers fields) (map_none (λ bad. BadReader s bad.0 bad.1) (bad_in_lists names 0 (lists Readers fields)) five.0);
+        readers = masks_below names 0 (lists Readers fields) (map_none (λ bad. BadReader s bad.0 bad.1) (bad_in_lists names 0 (lists Readers fields)) six.0);
       }
 
   sessions_within : (s : ℕ) (all : List Members) → sessions_fault (two_of adversary) names s all ≡ None

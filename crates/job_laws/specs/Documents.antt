@@ -9,7 +9,7 @@ use Rattle.party_set.specs.Parties.{has_party}
 use Rattle.party_names.specs.Names.{name_at, AreNames}
 use Rattle.circuit_model.specs.declared.layout.CircuitLayout.TheVariants.{Bristol, Ring}
 use Rattle.job_file.specs.declared.field.JobField.{JobField}
-use Rattle.job_file.specs.declared.field.JobField.TheVariants.{Version, RingBits, Parties, Formula, Tolerated, Hosts, Port, Frames, Views, Session, Circuit, Layout, Products as ProductsField, Owners, Readers}
+use Rattle.job_file.specs.declared.field.JobField.TheVariants.{Version, RingBits, Parties, Formula, Tolerated, Hosts, Port, Frames, Views, Session, Circuit, Layout, Products as ProductsField, Order, Owners, Readers}
 use Rattle.job_file.specs.declared.layout.SessionLayout.{SessionLayout}
 use Rattle.job_file.specs.declared.layout.SessionLayout.TheVariants.{Gates, Expressions}
 use Rattle.job_file.specs.declared.owner.JobOwner.{JobOwner}
@@ -67,6 +67,10 @@ products_data Direct = None
 products_data Prepared = Some (string (codes "prepared"))
 products_data Ahead = Some (string (codes "ahead"))
 
+-- the text that tells that gates go in layers, if they do
+abbrev pub order_data : Bool → Option Data
+order_data layered = choice_data (codes "layers") layered
+
 -- how an owner is named: a party by its name, a carried value by its session and its number there
 abbrev pub owner_text : List (List ℕ) → JobOwner → List ℕ
 owner_text names (Party party) = name_at names party
@@ -77,9 +81,10 @@ abbrev pub session_fields_of : List (List ℕ) → SessionForm → Members
 session_fields_of names s =
     with_field Circuit (Some (string s.circuit))
     (with_field Layout (Some (string (layout_text s.layout)))
+    (with_field Order (order_data s.layered_gates)
     (with_field Owners (Some (texts_data (map (owner_text names) s.owners)))
     (with_field ProductsField (products_data s.products)
-    (with_field Readers (Some (groups_data names s.readers)) no_members))))
+    (with_field Readers (Some (groups_data names s.readers)) no_members)))))
 
 -- the tables of sessions
 abbrev pub sessions_data : List (List ℕ) → List SessionForm → Data
@@ -137,7 +142,7 @@ abbrev pub HasLayout : AdversaryForm → SessionLayout → Type 0
 HasLayout (by_formula text) Expressions = ⊥
 HasLayout _ _ = Unit {0}
 
--- and so do prepared products, short frames and views of nodes
+-- and so do prepared products, gates in layers, short frames and views of nodes
 abbrev pub HasChoice : AdversaryForm → Bool → Type 0
 HasChoice (by_formula text) true = ⊥
 HasChoice _ _ = Unit {0}
@@ -152,6 +157,7 @@ pub record IsSessionForm (n : ℕ) (adversary : AdversaryForm) (number : ℕ) (s
   pub circuit : is_file_name s.circuit ≡ true
   pub layout : HasLayout adversary s.layout
   pub products : HasChoice adversary (are_prepared s.products)
+  pub order : HasChoice adversary s.layered_gates
   pub owners : AllByRecursion (IsOwner n number) s.owners
   pub carries : AllByRecursion (HasOwner adversary) s.owners
   pub readers : AllByRecursion (λ mask. mask < 2 ^ n) s.readers

@@ -9,6 +9,7 @@ use Rattle.maximal_groups.specs.Families.{maximal_structure, is_tolerated_by}
 use Rattle.q2_test.specs.CoveringPairs.{IsFirstCovering}
 use Rattle.circuit_model.specs.Netlists.{Netlist}
 use Rattle.circuit_file.specs.CircuitFiles.{circuit_in}
+use Rattle.layer_order.specs.Orders.{ordered}
 use Rattle.expr_circuit.specs.Laws.{IsCircuitOf, IsFault as IsProgramFault}
 use Rattle.expr_circuit.specs.declared.fault.ExprFault.{ExprFault}
 use Rattle.session_slots.specs.Sessions.{Session}
@@ -144,13 +145,14 @@ unfoldable pub CircuitOf : SessionLayout → List ℕ → ℕ → ℕ → List �
 CircuitOf (Gates layout) file s bits bytes = Ends (verdict_of (circuit_line file s) (circuit_in layout bits bytes))
 CircuitOf Expressions file s bits bytes = ExpressionsOf (expressions_line file s) bits bytes
 
--- the session behind those that were read: its circuit's file, its counts of owners and readers, and what it carries
+-- the session behind those that were read: its circuit's file, whose gates go in layers or not, its counts of owners and
+-- readers, and what it carries
 unfoldable pub SessionAt :
     Contents → List ℕ → JobForm → List Session → SessionForm → Verdict Session → Type 0
 SessionAt files dir job before form =
     Then (Ends (file_at files dir form.circuit)) (λ bytes.
     Then (CircuitOf form.layout form.circuit (length before) job.bits bytes) (λ circuit.
-    Ends (part_of (session_line (length before)) circuit form.products form.owners
+    Ends (part_of (session_line (length before)) (ordered form.layered_gates circuit) form.products form.owners
     (groups_in (length job.names) form.readers) before)))
 
 -- these sessions, after those that were read

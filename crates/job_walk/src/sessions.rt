@@ -2,6 +2,7 @@
 ghost use Rattle.std.specs.Prelude.{◌≡◌, ℕ, ◌<◌, ◌≤◌, [], ◌∷◌, All, IfOk, OnOk, length, map};
 ghost use Rattle.circuit_model.specs.Checks.{Gives};
 ghost use Rattle.circuit_file.specs.CircuitFiles.{circuit_in};
+ghost use Rattle.layer_order.specs.Orders.{ordered};
 ghost use Rattle.session_slots.specs.Carries.{CarriesFit, AllFit};
 ghost use Rattle.session_slots.specs.SoundSessions.{IsSoundSession};
 ghost use Rattle.job_file.specs.declared.products.Products.TheVariants.{Direct};
@@ -21,6 +22,7 @@ use circuit_model::{Circuit, CircuitFault, CircuitLayout};
 use job_file::{Job, JobOwner, JobSession, Products, SessionLayout};
 use job_limits::MOST_SESSIONS;
 use job_plan::{Owner, SessionPart};
+use layer_order::ordered;
 use mpc_ring::Ring;
 use outer_io::Files;
 use party_set::Group;
@@ -153,7 +155,7 @@ fn circuit_of_expressions(
     ))
 }
 
-// The session of a circuit, behind those before it.
+// The session of a circuit, its gates in layers or not, behind those before it.
 #[tactic(auto, unfolding(refusal_text::specs::Lines::session_line))]
 fn part_of(
     alloc: Global,
@@ -165,12 +167,13 @@ fn part_of(
     requires few { length before.now < MOST_SESSIONS }
     requires session { IsSession (length job.now.names) (length before.now) session.now }
     ensures walks { WalksAs (λ part. part)
-        (Ends (part_of (session_line (length before.now)) circuit session.now.products session.now.owners.items
-        session.now.readers.items before.now)) result }
+        (Ends (part_of (session_line (length before.now)) (ordered session.now.layered_gates circuit)
+        session.now.products session.now.owners.items session.now.readers.items before.now)) result }
     ensures sound { IfOk result (IsSoundSession (length job.now.names)) }
     ensures fit { IfOk result (CarriesFit before.now) }
 {
     let _ = job;
+    let circuit = ordered(alloc, circuit, session.layered_gates)?;
     let owners = owners_of(alloc, session)?;
     let readers = readers_of(session)?;
     match SessionPart::make(alloc, circuit, owners, readers, before) {
