@@ -5,9 +5,10 @@ use Rattle.circuit_model.specs.declared.gate.Gate.{Gate}
 use Rattle.circuit_model.specs.Circuits.{word_made}
 use Rattle.circuit_model.specs.Netlists.{Netlist, IsCircuit, gate, read_by, input_wires, sets, plain}
 
--- input wires have what is given, each gate's output what the gate makes of what the wires have, and a wire that nothing
--- sets has `none`
-pub record IsSolution {A : Type 0} (make : Gate → (ℕ → A) → A) (none : A) (c : Netlist) (inputs found : ℕ → A) : Type 0 where
+-- input wires have what is given, each gate's output what the gate makes of what the wires have, and a wire that
+-- nothing sets has `none`
+pub record IsSolution {A : Type 0} (make : Gate → (ℕ → A) → A) (none : A) (c : Netlist) (inputs found : ℕ → A)
+    : Type 0 where
   pub given : (w : ℕ) → w < input_wires c → found w ≡ inputs w
   pub gates : (t : ℕ) → t < length c.gates → found (gate c t).output ≡ make (gate c t) found
   pub unset : (w : ℕ) → sets c w ≡ false → found w ≡ none

@@ -145,7 +145,7 @@ unfoldable pub CircuitOf : SessionLayout → List ℕ → ℕ → ℕ → List �
 CircuitOf (Gates layout) file s bits bytes = Ends (verdict_of (circuit_line file s) (circuit_in layout bits bytes))
 CircuitOf Expressions file s bits bytes = ExpressionsOf (expressions_line file s) bits bytes
 
--- the session behind those that were read: its circuit's file, whose gates go in layers or not, its counts of owners and
+-- the session behind those that were read: its circuit's file, its gates in layers or not, its counts of owners and
 -- readers, and what it carries
 unfoldable pub SessionAt :
     Contents → List ℕ → JobForm → List Session → SessionForm → Verdict Session → Type 0

@@ -1,8 +1,8 @@
 -- Where gates stand by layers, each batch begins in a later layer than the one before it.
 use Rattle.std.proofs.Common.{◌≡◌, ℕ, zero, suc, ◌+◌, ◌-◌, ◌*◌, ◌/◌, ◌<◌, ◌≤◌, ◌⊎◌, Bool, true, false, not, ◌&&◌, ◌||◌, nat_eq, nat_le, min, if◌then◌else◌, List, [], ◌∷◌, length, inl, inr, refl, sym, ap, ◌∙◌, arith}
 use Rattle.std.specs.List.{list_any}
-use Rattle.std.proofs.lemmas.Bool.{cases_Bool, cases_eq, cases_lt, cond-true, cond-false, cond_both, and_parts, eq-eqb, eqb-true, le-leb, leb-true, lt-leb, or_cases, or_left, false≢true}
-use Rattle.std.proofs.Math.Nat.{le-max_left, le-max_right, le-min, min-le_left, min-le_right}
+use Rattle.std.proofs.lemmas.Bool.{cases_Bool, cases_lt, cond-true, cond-false, cond_both, and_parts, eq-eqb, eqb-true, le-leb, leb-true, lt-leb, or_cases, or_left, false≢true}
+use Rattle.std.proofs.Math.Nat.{le-min, min-le_left, min-le_right}
 use Rattle.list_laws.specs.Lists.{only_if, total}
 use Rattle.list_laws.proofs.Greatest.{greatest_at}
 use Rattle.circuit_model.specs.Circuits.{is_product}

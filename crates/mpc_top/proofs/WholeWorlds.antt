@@ -18,6 +18,8 @@ use Rattle.party_names.specs.Names.{AreNames}
 use Rattle.circuit_model.specs.Netlists.{Netlist, IsCircuit}
 use Rattle.circuit_file.specs.CircuitFiles.{circuit_in}
 use Rattle.circuit_file.proofs.FileLaws.{file_grounded}
+use Rattle.layer_order.specs.Orders.{ordered}
+use Rattle.layer_order.proofs.SortedGates.{ordered_valid}
 use Rattle.expr_circuit.proofs.ValidPrograms.{valid_program}
 use Rattle.maximal_groups.specs.Families.{IsFamily, maximal_structure}
 use Rattle.maximal_groups.proofs.FoundGroups.{antichain}
@@ -267,7 +269,7 @@ part_fits n adversary line c before form s valid named e =
       carries_fit before s c.inputs owners (ap (λ (s : Session). s.inputs) made.1) (owners_earlier n (length before) form.owners all) faults.1,
     )
 
-circuit_is_valid : (layout : SessionLayout) (file : List ℕ) (s bits : ℕ) (bytes : List ℕ) (c : Netlist) → 0 < bits → bits ≤ 64 → CircuitOf layout file s bits bytes (accepted c) → IsCircuit c
+pub circuit_is_valid : (layout : SessionLayout) (file : List ℕ) (s bits : ℕ) (bytes : List ℕ) (c : Netlist) → 0 < bits → bits ≤ 64 → CircuitOf layout file s bits bytes (accepted c) → IsCircuit c
 unfolding CircuitOf ExpressionsOf
 circuit_is_valid (Gates layout) file s bits bytes c some few read = (file_grounded layout bits bytes c some few (was_ok _ (circuit_in layout bits bytes) c read)).valid
 circuit_is_valid Expressions file s bits bytes c some few read = subst IsCircuit (sym read.made) (valid_program bits bytes read.program read.is some few)
@@ -277,7 +279,8 @@ module _ (files : Contents) (dir : List ℕ) (job : JobForm) (some : 0 < job.bit
       → IsSoundSession (length job.names) x × CarriesFit before x
   unfolding SessionAt Then
   session_fits before at x named (bytes, there, (c, read, e)) =
-      part_fits (length job.names) job.adversary _ c before at x (circuit_is_valid at.layout at.circuit (length before) job.bits bytes c some few read) named e
+      part_fits (length job.names) job.adversary _ (ordered at.layered_gates c) before at x
+      (ordered_valid at.layered_gates c (circuit_is_valid at.layout at.circuit (length before) job.bits bytes c some few read)) named e
 
   -- each session is sound
   abbrev AreSound : List Session → Type 0

@@ -1,6 +1,6 @@
 -- Which wires are kept at which slots, and a row for each wire: those that are kept together have rows of their own.
 -- The masks of a prepared product, and their product, are wires behind those of the circuit.
-use Rattle.std.specs.Prelude.{◌≡◌, ◌≢◌, ℕ, zero, suc, ◌+◌, ◌<◌, nat_eq, nat_le, Bool, true, false, ◌&&◌, if◌then◌else◌, List, [], ◌∷◌, length, slice_index, All}
+use Rattle.std.specs.Prelude.{◌≡◌, ◌≢◌, ℕ, ◌+◌, ◌<◌, nat_eq, nat_le, Bool, true, false, ◌&&◌, if◌then◌else◌, List, [], ◌∷◌, length, slice_index, All}
 use Rattle.std.specs.List.{list_any}
 use Rattle.list_laws.specs.Lists.{greatest, total, some_below}
 use Rattle.circuit_model.specs.Netlists.{read_by}

@@ -49,19 +49,19 @@ use Rattle.job_laws.proofs.ReadJobs.{IsGoodDocument, good_document, good_job}
 -- ---- a node's walk, by its parts
 
 -- what was read on the way to a node
-record IsNode (files : Contents) (dir name : List ℕ) (node : NodeForm) : Type 0 where
-  job : JobForm
-  text : JobText true files dir (accepted job)
-  me : ℕ
-  named : party_named job.names name ≡ Some me
-  groups : Structure
-  structure_is : StructureOf job (accepted groups)
-  sessions : List Session
-  read : SessionsAfter files dir job [] job.sessions (accepted sessions)
-  plan_is : PlanOf job (plan_of job.bits groups (keeping sessions)) (accepted (plan_of job.bits groups (keeping sessions)))
-  given : PartyForm
-  party : PartyAt files dir (plan_of job.bits groups (keeping sessions)) me name (accepted given)
-  is : node
+pub record IsNode (files : Contents) (dir name : List ℕ) (node : NodeForm) : Type 0 where
+  pub job : JobForm
+  pub text : JobText true files dir (accepted job)
+  pub me : ℕ
+  pub named : party_named job.names name ≡ Some me
+  pub groups : Structure
+  pub structure_is : StructureOf job (accepted groups)
+  pub sessions : List Session
+  pub read : SessionsAfter files dir job [] job.sessions (accepted sessions)
+  pub plan_is : PlanOf job (plan_of job.bits groups (keeping sessions)) (accepted (plan_of job.bits groups (keeping sessions)))
+  pub given : PartyForm
+  pub party : PartyAt files dir (plan_of job.bits groups (keeping sessions)) me name (accepted given)
+  pub is : node
       ≡ record {
         names = job.names;
         hosts = job.hosts;
@@ -78,7 +78,7 @@ some_party : (o : Option ℕ) (me : ℕ) → accepted me ≡ party_of o → o �
 some_party None me e = cc
 some_party (Some p) me e = ap Some (sym (accepted_is me p e))
 
-node_read : (files : Contents) (dir name : List ℕ) (node : NodeForm) → NodeAt files dir name (accepted node) → IsNode files dir name node
+pub node_read : (files : Contents) (dir name : List ℕ) (node : NodeForm) → NodeAt files dir name (accepted node) → IsNode files dir name node
 unfolding NodeAt PlanOf Then
 node_read files dir name node (job, text, (me, m, (s, found, (sessions, read, (plan, (same, within), (given, party, e)))))) = record {
   job = job;

@@ -38,7 +38,7 @@ use Rattle.mpc_top.specs.WholeJobs.{WholeJob, whole_job, JobAt}
 use Rattle.walk_laws.specs.Tolerated.{AreNamedIn, FileTolerates, FormulaTolerates, HasFields, JobsTolerateAsWritten, ListsTolerate, NodesTolerateAsWritten}
 use Rattle.mpc_top.proofs.WholeWorlds.{accepted_is, few_are, formula_family, was_ok}
 use Rattle.job_laws.proofs.ReadJobs.{form_within, good_document, head_passed, list_named, map_none, or_none, IsGoodDocument}
-use Rattle.walk_laws.proofs.RunValues.{bytes_there}
+use Rattle.walk_laws.proofs.FileCircuits.{bytes_there}
 
 -- ---- texts among texts
 
