@@ -1,19 +1,19 @@
 #!/usr/bin/env python3
 """Times nodes that run a job over the loopback network: network.py PROGRAM [TABLE]
 
-The jobs are the auction of examples/network, AES-128 of examples/aes, with its circuit as it is made and in layers, and SHA-256 of a message of one block of
+The jobs are the auction of examples/network, AES-128 of examples/aes, with its gates in layers and in the order of its file, and SHA-256 of a message of one block of
 examples/sha256, in sessions that carry, with words that are added bit by bit and by trees of carries. Each is run ROUNDS times
 (20, where the environment doesn't say) by a node for each party, all started at once, with named frames and with short ones, and once by 'mpc
 run'. Prints for each job its messages, its bytes in both forms, its rounds, the least times of the nodes and that of the run in one process, and the
 time of one run of the nodes with short frames over links on which each byte takes 20 milliseconds (relay.py). The table 'sha256' has the figures of
-examples/sha256, of messages of one block and of two; its memory is what /usr/bin/time tells. The table 'orders' has AES-128 in layers with products that are
+examples/sha256, of messages of one block and of two; its memory is what /usr/bin/time tells. The table 'products' has AES-128 with products that are
 direct, prepared, and prepared ahead, with short frames: its rounds and bytes before the round of the inputs, and from that on. Without a word of it there is the
 table 'jobs' alone. Ends with status 1 where a node fails or writes anything else than 'mpc run' does.
 
 Bytes are those that all nodes send, as they are counted on the way: a hello of 38 bytes to each peer, and for a message 18 bytes or those of its word. A
 round is a run of slots that says something and of which none waits for another; a word that is carried is said to nobody. The rounds seen are those of a run over links that hold all that is sent
 until every node waits (relay.py). The least rounds that the protocol would need for the circuit are the products on its longest path, one for the
-inputs and one for the outputs: those of the circuit in layers. Of a job of several sessions they are the sum of these.
+inputs and one for the outputs: those of the gates in layers. Of a job of several sessions they are the sum of these.
 """
 
 import collections
@@ -31,7 +31,7 @@ EXAMPLES = os.path.join(os.path.dirname(HERE), 'examples')
 NETWORK = os.path.join(EXAMPLES, 'network')
 sys.path[1:1] = [EXAMPLES, NETWORK, os.path.join(os.path.dirname(HERE), 'tests')]
 import nodes  # noqa: E402
-from by_layers import ORDERS  # noqa: E402
+from by_layers import IN_FILE, WAYS  # noqa: E402
 from job_counts import counts_of  # noqa: E402
 from job_folder import job_text, read_fields, write_new  # noqa: E402
 from relay import Relay, Steps  # noqa: E402
@@ -122,15 +122,21 @@ def row(program, name, job, times):
           f'| {1000 * named.best:.1f} | {1000 * short.best:.1f} | {1000 * alone:.1f} | {short.delayed:.2f} |', flush=True)
 
 
-def row_of_order(program, job, folder, order, times):
-    """A row of the table of orders: a job of one session, its products in some order."""
+def with_field(job, folder, **field):
+    """Writes the same job of one session, with this field of the session."""
     shutil.copytree(job, folder)
     fields = read_fields(job)
     [session] = fields['session']
-    write_new(folder, 'job.toml', job_text({**fields, 'session': [{**session, 'products': order}]}).encode(), replace=True)
+    write_new(folder, 'job.toml', job_text({**fields, 'session': [{**session, **field}]}).encode(), replace=True)
+    return folder
+
+
+def row_of_products(program, job, folder, way, times):
+    """A row of the table of products: a job of one session, whose products are computed in this way."""
+    with_field(job, folder, products=way)
     found, [counts] = measure(program, folder, 'short', run_of(program, folder), times), counts_of(folder).sessions
     before, sizes = counts.before, found.sizes
-    print(f'| {order} | {sum(counts.messages.values()):,} | {before:,} | {counts.rounds - before:,} | {len(sizes):,} | {sum(sizes[:before]):,} | {sum(sizes[before:]):,} '
+    print(f'| {way} | {sum(counts.messages.values()):,} | {before:,} | {counts.rounds - before:,} | {len(sizes):,} | {sum(sizes[:before]):,} | {sum(sizes[before:]):,} '
           f'| {1000 * found.best:.1f} | {found.delayed:.2f} |', flush=True)
 
 
@@ -138,21 +144,6 @@ def rounds_of_sessions(sessions):
     """The rounds of each session, and the least."""
     for session in sessions:
         yield session.rounds, session.depth + bool(session.gives) + bool(session.reads)
-
-
-def circuit_of(job):
-    """The file of the job's first session."""
-    return read_fields(job)['session'][0]['circuit']
-
-
-def bring_into_layers(program, job, folder):
-    """Writes the same job with its circuit in layers."""
-    shutil.copytree(job, folder)
-    name = circuit_of(job)
-    os.remove(os.path.join(folder, name))
-    subprocess.run([sys.executable, os.path.join(EXAMPLES, 'by_layers.py'), os.path.join(job, name), os.path.join(folder, name), program],
-                   check=True, capture_output=True)
-    return folder
 
 
 def head(*names):
@@ -168,20 +159,20 @@ def make_sha256(folder, blocks, chain):
     return job, told_of
 
 
-def make_aes(program, folder):
-    """The job of AES-128, as its circuit is made and in layers."""
+def make_aes(folder):
+    """The job of AES-128."""
     made = os.path.join(folder, 'aes')
     subprocess.run([sys.executable, os.path.join(EXAMPLES, 'aes', 'job.py'), 'make', made, KEY, BLOCK], check=True)
-    return made, bring_into_layers(program, made, os.path.join(folder, 'layers'))
+    return made
 
 
 def table_of_jobs(program, folder, times):
     head('Job', 'Messages', 'Bytes, named frames', 'Bytes, short frames', 'Rounds', 'Rounds seen', 'Least rounds', 'Milliseconds, named', 'Milliseconds, short',
          'Milliseconds, one process', 'Seconds, nodes 20 ms apart')
     row(program, 'auction of three', NETWORK, times)
-    made, layers = make_aes(program, folder)
+    made = make_aes(folder)
     row(program, 'AES-128', made, times)
-    row(program, 'AES-128 in layers', layers, times)
+    row(program, 'AES-128 in the order of its file', with_field(made, os.path.join(folder, 'file'), order=IN_FILE), times)
     for name, chain in [('SHA-256 bit by bit', True), ('SHA-256 by trees', False)]:
         row(program, name, make_sha256(folder, 1, chain)[0], times)
 
@@ -206,15 +197,15 @@ def table_of_sha256(program, folder, times):
     print('\n'.join(rows))
 
 
-def table_of_orders(program, folder, times):
-    head('Products of AES-128 in layers', 'Messages', 'Rounds before the inputs', 'Rounds from these on', 'Rounds seen', 'Bytes in the rounds before',
+def table_of_products(program, folder, times):
+    head('Products of AES-128', 'Messages', 'Rounds before the inputs', 'Rounds from these on', 'Rounds seen', 'Bytes in the rounds before',
          'Bytes in the others', 'Milliseconds', 'Seconds, nodes 20 ms apart')
-    _, layers = make_aes(program, folder)
-    for order in ORDERS:
-        row_of_order(program, layers, os.path.join(folder, order), order, times)
+    made = make_aes(folder)
+    for way in WAYS:
+        row_of_products(program, made, os.path.join(folder, way), way, times)
 
 
-TABLES = {'jobs': table_of_jobs, 'sha256': table_of_sha256, 'orders': table_of_orders}
+TABLES = {'jobs': table_of_jobs, 'sha256': table_of_sha256, 'products': table_of_products}
 
 
 def main(words):

@@ -16,7 +16,6 @@ TOP = HERE.parent
 EXAMPLES = TOP / 'examples'
 sys.path[1:1] = [str(EXAMPLES), str(TOP / 'tests')]
 
-from by_layers import in_layers, layers, read_circuit, rounds  # noqa: E402
 from drawing import BEFORE, DIRECT, FAINT, INK, LINE, PARTIES, PREPARED, SUMMANDS, WHITE, Drawing, count  # noqa: E402
 from job_counts import counts_of  # noqa: E402
 from job_folder import read_fields, tomllib  # noqa: E402
@@ -297,7 +296,7 @@ def cost_picture(points):
 # All pictures.
 
 # Jobs that stand in the chart of rounds.
-POINTS = [('auction', 'auction')]
+POINTS = [('auction', 'auction'), ('aes', 'AES-128')]
 
 
 def one_session(job):
@@ -324,10 +323,8 @@ def pictures():
     counts = {folder.parent.name: counts_of(folder.parent) for folder in sorted(EXAMPLES.glob('*/job.toml'))}
     with tempfile.TemporaryDirectory() as top:
         counts.update((example, counts_of(made_job(example, words, top))) for example, words in MADE.items())
-        aes = pathlib.Path(top, 'aes', 'aes.txt').read_bytes()
     points = [(*one_session(counts[example]), text) for example, text in POINTS]
-    head, gates = read_circuit(aes)
-    yield HERE / 'pictures' / 'cost.svg', cost_picture([*points, (layers(gates)[1], rounds(head, in_layers(gates)), 'AES-128')])
+    yield HERE / 'pictures' / 'cost.svg', cost_picture(points)
     for example, job in counts.items():
         yield EXAMPLES / example / 'job.svg', JobPicture(example, job).draw()
 

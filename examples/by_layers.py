@@ -1,12 +1,12 @@
 #!/usr/bin/env python3
-"""Brings the gates of a circuit into layers, and tells how many rounds that saves.
+"""Tells how many rounds nodes take for a circuit, with its gates in the order of the file and in layers:
 
-    examples/by_layers.py CIRCUIT [NEW [PROGRAM]]
+    examples/by_layers.py CIRCUIT [PROGRAM]
 
-Nodes do all products at once that stand together in a file and need not wait for one another. The layer of a gate is how many products
-stand on the longest path to it. NEW has the same gates sorted by layers, the linear ones of a layer before its products, and otherwise
-in their order: so it computes the same, and all products of a layer take one round. It is another file, so parties who run nodes
-agree on it before they agree on the job. Without NEW nothing is written.
+Nodes do all products at once that stand together and need not wait for one another. The layer of a gate is how many products stand on the
+longest path to it. With order = "layers" in the session's table of job.toml the program itself sorts the gates by layers, the linear ones of a
+layer before its products, and otherwise in their order: so all products of a layer take one round. The file stays as it is, and so do the
+wires and what they come to. This script only counts, and writes no file.
 
 Prints how many products the circuit has, its depth, which is how many of them stand on the longest path, and the rounds of both
 orders: those of the inputs, the products and the outputs. Two lines more tell the same for a session whose products are prepared, one after another or
@@ -28,7 +28,10 @@ PRODUCTS = {'AND', 'MUL'}
 
 # How the products of a session are computed: each is dealt itself, or is prepared before the inputs, one after another, or the masks of all ahead
 # of their products.
-DIRECT, PREPARED, AHEAD = ORDERS = ('direct', 'prepared', 'ahead')
+DIRECT, PREPARED, AHEAD = WAYS = ('direct', 'prepared', 'ahead')
+
+# In which order its gates go: that of the file, or in layers.
+IN_FILE, IN_LAYERS = ORDERS = ('file', 'layers')
 
 OF_WORDS = {'ADD', 'SUB', 'NEG', 'MUL'}
 
@@ -40,7 +43,6 @@ class Gate:
     """A line of a circuit: the wires that it reads, the one that it sets, and whether it multiplies."""
 
     def __init__(self, tokens):
-        self.line = ' '.join(tokens)
         count = int(tokens[0])
         self.reads = [] if tokens[-1] == 'EQ' else [int(wire) for wire in tokens[2:2 + count]]
         self.sets = int(tokens[2 + count])
@@ -115,21 +117,21 @@ def prepared_slots(number, gate):
     return masks, ([first, second], product, True, True), [*openings, ([], gate.sets, JOINS, False)]
 
 
-def preparation(products, order):
-    """The slots of masks and of their products, in this order."""
-    if order == AHEAD:
+def preparation(products, way):
+    """The slots of masks and of their products, which are prepared in this way."""
+    if way == AHEAD:
         return [mask for masks, _, _ in products for mask in masks] + [product for _, product, _ in products]
     return [slot for masks, product, _ in products for slot in (*masks, product)]
 
 
-def rounds_apart(head, gates, given=None, read=None, order=DIRECT):
+def rounds_apart(head, gates, given=None, read=None, way=DIRECT):
     """How many batches of slots say something, before the inputs and from these on: those with a mask, and those with an input, a product or an output; but, where
     it is told which input values are given and which output values are read, with none that is carried on instead."""
     products, slots, wires = [], [], iter(range(int(head[0][1])))
     for value, width in enumerate(map(int, head[1][1:])):
         slots += [([], wire, True, given is None or given[value]) for wire in itertools.islice(wires, width)]
     for number, gate in enumerate(gates):
-        if order != DIRECT and gate.multiplies:
+        if way != DIRECT and gate.multiplies:
             products.append(prepared_slots(number, gate))
             slots += products[-1][2]
         else:
@@ -138,38 +140,34 @@ def rounds_apart(head, gates, given=None, read=None, order=DIRECT):
     wires = iter(range(int(head[0][1]) - sum(widths), int(head[0][1])))
     for value, width in enumerate(widths):
         slots += [([wire], NOTHING, False, read is None or bool(read[value])) for wire in itertools.islice(wires, width)]
-    before = preparation(products, order)
+    before = preparation(products, way)
     ends = talking_batches(before + slots)
     earlier = sum(end <= len(before) for end in ends)
     return earlier, len(ends) - earlier
 
 
-def rounds(head, gates, given=None, read=None, order=DIRECT):
+def rounds(head, gates, given=None, read=None, way=DIRECT):
     """How many batches of slots say something, in all."""
-    return sum(rounds_apart(head, gates, given, read, order))
+    return sum(rounds_apart(head, gates, given, read, way))
 
 
 def main(words):
     if words in (['-h'], ['--help']):
         print(__doc__)
         return 0
-    if not 1 <= len(words) <= 3:
+    if not 1 <= len(words) <= 2:
         print(__doc__.split('\n\n')[1], file=sys.stderr)
         return 2
     path = pathlib.Path(words[0])
     data = read_bytes(os.fspath(path.parent), path.name)
-    accept(data, words[2] if len(words) == 3 else str(TOP / 'mpc'), path)
+    accept(data, words[1] if len(words) == 2 else str(TOP / 'mpc'), path)
     head, gates = read_circuit(data)
     by_layers = in_layers(gates)
-    if len(words) > 1:
-        new = pathlib.Path(words[1])
-        text = ''.join(line + '\n' for line in [*map(' '.join, head), *(gate.line for gate in by_layers)])
-        write_new(os.fspath(new.parent), new.name, text.encode())
     print(f'products {sum(gate.multiplies for gate in gates)} depth {layers(gates)[1]} '
           f'rounds {rounds(head, gates)} rounds_in_layers {rounds(head, by_layers)}')
-    for order in (PREPARED, AHEAD):
-        apart = [rounds_apart(head, its_gates, order=order) for its_gates in (gates, by_layers)]
-        print('{} before {} rounds {} before_in_layers {} rounds_in_layers {}'.format(order, *apart[0], *apart[1]))
+    for way in (PREPARED, AHEAD):
+        apart = [rounds_apart(head, its_gates, way=way) for its_gates in (gates, by_layers)]
+        print('{} before {} rounds {} before_in_layers {} rounds_in_layers {}'.format(way, *apart[0], *apart[1]))
     return 0
 
 

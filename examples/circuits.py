@@ -24,6 +24,9 @@ are. Where a call takes two or three numbers, the first parties give them, and t
 take a helper. With --tolerated these groups must learn nothing, as ann+bob,cleo, and all others may know everything. For 'count' leave
 BITS out; for 'total' they are the ring's.
 
+The gates of a circuit stand in the order in which they are made. Nodes take fewest rounds where they go in layers: the job of 'job' says so, by
+order = "layers", which goes into the session's table of any other job of version 2, too.
+
 A session takes 65,536 gates. A circuit that has more, up to sixteen times as many, is written all the same, with a line on standard error:
 examples/cut.py makes a job of it, of several sessions.
 
@@ -215,22 +218,17 @@ class Circuit:
                 needed.update(operands)
         return [wire for wire in sorted(needed) if self.gates[wire]]
 
-    def in_layers(self, gates):
-        """The products of one round stand together, and then what follows from them without one."""
-        return sorted(gates, key=lambda wire: (self.depths[wire], self.gates[wire][0] != 'AND', wire))
-
-    def text(self, outputs, by_layers=True):
-        """The file, with a copy of each output wire at the end, where the output values have their place. The gates stand in layers, or
-        else in the order in which they were made."""
+    def text(self, outputs):
+        """The file, with the gates in the order in which they were made, and a copy of each output wire at the end, where the output values have
+        their place."""
         need(len(outputs) <= MOST_VALUES, f'a circuit has at most {MOST_VALUES} output values')
-        gates = self.needed(outputs)
         wires = {wire: wire for wire in range(sum(self.widths))}
         lines = []
 
         def line(operation, *operands):
             lines.append(f'{len(operands)} 1 {" ".join(map(str, operands))} {sum(self.widths) + len(lines)} {operation}')
 
-        for wire in self.in_layers(gates) if by_layers else gates:
+        for wire in self.needed(outputs):
             operation, operands = self.gates[wire]
             wires[wire] = sum(self.widths) + len(lines)
             line(operation, *(operands if operation == 'EQ' else (wires[operand] for operand in operands)))

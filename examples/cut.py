@@ -15,9 +15,9 @@ the others give and read nothing. Any two may know everything, and one alone lea
     --gates N              at most so many gates in a session, for smaller ones
 
 The gates keep the order of the file, or one of two others: each just behind what it needs, from the first output on or from the last. These three are tried, or
-with --fewest rounds that by layers alone, and the sessions are the fewest that are found so, cut where few wires live; another order might do with fewer. Each
-is in layers. Who gives an input value gives it once, and output values are read once, both in the order of the circuit: so examples/numbers.py writes and reads
-its numbers. What no output needs is left out.
+with --fewest rounds that by layers alone, and the sessions are the fewest that are found so, cut where few wires live; another order might do with fewer. The
+file of a session keeps that order, and its field order = "layers" has the program bring the gates into layers. Who gives an input value gives it once, and
+output values are read once, both in the order of the circuit: so examples/numbers.py writes and reads its numbers. What no output needs is left out.
 
 Prints what the file has and by how much that is more than one session takes; the gates, the products, the rounds of nodes and the messages of
 each session, and the words that it carries from earlier ones; and these of the whole job. A circuit that is past a limit of a job is
@@ -33,7 +33,7 @@ import os
 import re
 import sys
 
-from by_layers import NOTHING, talking_batches
+from by_layers import IN_LAYERS, NOTHING, talking_batches
 from circuit_reader import MOST_READ_BYTES, PRODUCTS, Fault, read_circuit
 from circuits import MOST_GATES
 from cut_places import begins, best_cuts, depth_first, in_layers, lives, needed, spread, times
@@ -248,7 +248,6 @@ class PartFile:
 
     def __init__(self, circuit, part):
         self.circuit, self.part = circuit, part
-        self.gates, _ = in_layers(circuit, part.gates)
         self.numbers = {wire: number for number, wire in enumerate(part.inputs)}
         self.copies, made, end = [], {*part.gates, *part.constants}, part.wires - len(part.ends)
         for number, wire in enumerate(part.ends, end):
@@ -257,29 +256,29 @@ class PartFile:
             else:
                 self.copies.append((wire, number))
         free = iter(range(len(part.inputs), end))
-        for wire in itertools.chain(part.constants, self.gates):
+        for wire in itertools.chain(part.constants, part.gates):
             if wire not in self.numbers:
                 self.numbers[wire] = next(free)
 
     def text(self):
-        """The file, whose gates stand in layers."""
+        """The file, whose gates stand in the order in which they were cut."""
         circuit, part, numbers = self.circuit, self.part, self.numbers
         values = [circuit.inputs[value] for value in part.given] + [len(wires) for _, _, wires in part.carried]
         ends = [circuit.outputs[value] for value in part.read] + [len(wires) for _, wires in part.kept]
         lines = [' '.join(map(str, line)) for line in ([part.size, part.wires], [len(values), *values], [len(ends), *ends])]
         lines += [f'1 1 {circuit.constants[wire]} {numbers[wire]} EQ' for wire in part.constants]
-        for wire in self.gates:
+        for wire in part.gates:
             first, second, operation = numbers[circuit.firsts[wire]], circuit.seconds[wire], circuit.operations[wire]
             lines.append(f'2 1 {first} {numbers[second]} {numbers[wire]} {operation}' if second >= 0 else f'1 1 {first} {numbers[wire]} {operation}')
         lines += [f'1 1 {numbers[wire]} {number} EQW' for wire, number in self.copies]
         return '\n'.join(lines) + '\n'
 
     def rounds(self, readers):
-        """The rounds of nodes: the batches that say something."""
+        """The rounds of nodes: the batches that say something, with the gates in layers."""
         circuit, part = self.circuit, self.part
         given, firsts, seconds = set(circuit.input_wires(part.given)), circuit.firsts, circuit.seconds
         slots = [([], wire, True, wire in given) for wire in part.inputs]
-        for wire in self.gates:
+        for wire in in_layers(circuit, part.gates)[0]:
             product = circuit.operations[wire] in PRODUCTS
             slots.append(((firsts[wire], seconds[wire]), wire, product, product))
         for value in part.read:
@@ -340,7 +339,7 @@ class Job:
     def session(self, number, part):
         """The fields of a session."""
         carried = [f'@{earlier}.{len(self.parts[earlier].read) + place}' for earlier, place, _ in part.carried]
-        return {'circuit': f'part_{number}.txt', 'layout': 'ring' if self.bits else 'bristol',
+        return {'circuit': f'part_{number}.txt', 'layout': 'ring' if self.bits else 'bristol', 'order': IN_LAYERS,
                 'owners': [self.owners[value] for value in part.given] + carried,
                 'readers': [self.readers[value] for value in part.read] + [[] for _ in part.kept]}
 

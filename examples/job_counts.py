@@ -3,31 +3,42 @@
 import collections
 import os
 
-from by_layers import DIRECT, ORDERS, layers, read_circuit, rounds_apart
+from by_layers import DIRECT, IN_FILE, IN_LAYERS, ORDERS, WAYS, in_layers, layers, read_circuit, rounds_apart
 from circuit_reader import read_circuit as checked_circuit
 from expression_reader import compiled
 from job_folder import CARRIED, Refusal, need, read_bytes, read_fields
 from job_folder import read_job as read_whole_job
 from summands import Sharing, tolerated_of
 
-# Of a session: the name of its file, its layout, how its products are computed, how many values each party gives, who reads how many, from which sessions
-# how many wires are carried, its gates, its products, how many of these stand on the longest path, its rounds before the inputs, and all of them; the
-# messages by sender and receiver, and those that stay with their party, of wires that later sessions carry.
-SessionCounts = collections.namedtuple('SessionCounts', 'file layout order gives reads carries gates products depth before rounds messages kept')
+# Of a session: the name of its file, its layout, how its products are computed, in which order its gates go, how many values each party gives, who reads
+# how many, from which sessions how many wires are carried, its gates, its products, how many of these stand on the longest path, its rounds before the
+# inputs, and all of them; the messages by sender and receiver, and those that stay with their party, of wires that later sessions carry.
+SessionCounts = collections.namedtuple('SessionCounts', 'file layout way order gives reads carries gates products depth before rounds messages kept')
 
 # A job: its sharing, and its sessions.
 JobCounts = collections.namedtuple('JobCounts', 'sharing sessions')
 
 
+def way_of(session):
+    """How the products of a session are computed."""
+    return session.get('products', DIRECT)
+
+
+def order_of(session):
+    """In which order the gates of a session go."""
+    return session.get('order', IN_FILE)
+
+
 def gates_of(folder, fields, session):
-    """The head and the gates of a session's circuit."""
+    """The head and the gates of a session's circuit, in the order in which they go."""
     data, bits = read_bytes(folder, session['circuit']), fields['ring_bits']
     try:
         data = compiled(data, bits).encode() if session['layout'] == 'expr' else data
         checked_circuit(data, bits, session['layout'] == 'bristol')
     except Refusal as fault:
         raise Refusal(f'{os.path.join(folder, session["circuit"])}: {fault}') from None
-    return read_circuit(data)
+    head, gates = read_circuit(data)
+    return head, in_layers(gates) if order_of(session) == IN_LAYERS else gates
 
 
 def carried_values(fields, number):
@@ -38,7 +49,7 @@ def carried_values(fields, number):
                 yield int(found[2])
 
 
-def messages_of(sharing, session, job, products, order):
+def messages_of(sharing, session, job, products, way):
     """The messages of a session between each two parties."""
     found = collections.Counter()
 
@@ -49,7 +60,7 @@ def messages_of(sharing, session, job, products, order):
     for owner, width in zip(session.owners, session.inputs):
         if owner in job.parties:
             add(sharing.deal(owner), width)
-    add(sharing.product() if order == DIRECT else sum(sharing.prepared(), []), products)
+    add(sharing.product() if way == DIRECT else sum(sharing.prepared(), []), products)
     for readers, width in zip(session.readers, session.outputs):
         add(sharing.opening(readers), width)
     return found
@@ -59,7 +70,7 @@ def session_counts(folder, fields, job, sharing, number):
     """The counts of a session."""
     written, session = fields['session'][number], job.sessions[number]
     head, gates = gates_of(folder, fields, written)
-    order = written.get('products', DIRECT)
+    way = way_of(written)
     gives, reads, carries = collections.Counter(), collections.Counter(), collections.Counter()
     for owner, width in zip(session.owners, session.inputs):
         found = CARRIED.fullmatch(owner)
@@ -72,14 +83,15 @@ def session_counts(folder, fields, job, sharing, number):
     products = sum(gate.multiplies for gate in gates)
     kept = sum(session.outputs[value] for value in carried_values(fields, number)) * sharing.of_carried()
     given, read = [owner in job.parties for owner in session.owners], [any(sharing.opening(readers)) for readers in session.readers]
-    before, then = rounds_apart(head, gates, given, read, order) if len(job.parties) > 1 else (0, 0)
-    return SessionCounts(written['circuit'], written['layout'], order, gives, reads, carries, len(gates), products, layers(gates)[1], before, before + then,
-                         messages_of(sharing, session, job, products, order), kept)
+    before, then = rounds_apart(head, gates, given, read, way) if len(job.parties) > 1 else (0, 0)
+    return SessionCounts(written['circuit'], written['layout'], way, order_of(written), gives, reads, carries, len(gates), products, layers(gates)[1], before,
+                         before + then, messages_of(sharing, session, job, products, way), kept)
 
 
 def counts_of(folder):
     """The counts of a job's folder."""
     fields, job = read_fields(folder), read_whole_job(folder)
     sharing = Sharing(fields['parties'], tolerated_of(fields))
-    need(all(session.get('products', DIRECT) in ORDERS for session in fields['session']), f'{os.path.join(folder, "job.toml")}: products is none of {", ".join(ORDERS)}')
+    for name, found, known in [('products', way_of, WAYS), ('order', order_of, ORDERS)]:
+        need(all(found(session) in known for session in fields['session']), f'{os.path.join(folder, "job.toml")}: {name} is none of {", ".join(known)}')
     return JobCounts(sharing, [session_counts(folder, fields, job, sharing, number) for number in range(len(job.sessions))])

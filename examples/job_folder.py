@@ -186,17 +186,15 @@ def need_names(parties):
 
 
 def write_job(folder, bits, parties, owners, circuit, name, layout, readers=None, tolerated=None, frames=None):
-    """Writes the folder of a job of one session. The readers read each output value, and the others nothing; where none are named, they are
-    those who own an input value. Where no tolerated groups are named, any two parties may know everything and one alone learns nothing. The
-    form of frames is one of version 2, as a list of tolerated groups is."""
+    """Writes the folder of a job of one session, with its gates in layers. The readers read each output value, and the others nothing; where none are
+    named, they are those who own an input value. Where no tolerated groups are named, any two parties may know everything and one alone learns nothing."""
     need_names(parties)
     need(tolerated is not None or len(parties) > 2, 'where each party alone must learn nothing, a job wants three of them: one may help that '
          'gives and reads nothing')
     outputs = int(circuit.split('\n', 3)[2].split()[0])
-    session = {'circuit': name, 'layout': layout, 'owners': owners, 'readers': [readers or owners] * outputs}
-    structure = {'formula': f'2 of ({", ".join(parties)})'} if tolerated is None else {'tolerated': tolerated}
-    fields = {'version': 1 if tolerated is None else 2, 'ring_bits': bits, 'parties': parties, **structure, **({'frames': frames} if frames else {}),
-              'session': [session]}
+    session = {'circuit': name, 'layout': layout, 'order': 'layers', 'owners': owners, 'readers': [readers or owners] * outputs}
+    fields = {'version': 2, 'ring_bits': bits, 'parties': parties, 'tolerated': [[party] for party in parties] if tolerated is None else tolerated,
+              **({'frames': frames} if frames else {}), 'session': [session]}
     os.makedirs(folder, exist_ok=True)
     write_new(folder, 'job.toml', job_text(fields).encode())
     write_new(folder, name, circuit.encode())

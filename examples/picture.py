@@ -6,13 +6,14 @@
 At the top stand its parties, joined by lines as wide as they have messages for each other, and how many messages each party sends to each
 other one; below them the groups that must learn nothing; and then its sessions in order: who gives and who reads how many values, what is carried
 into later sessions unopened, and what each costs. It reads job.toml and the files of the sessions, and no party's file. What it counts is
-what './mpc check' counts; rounds are those of nodes, in the order in which the gates stand.
+what './mpc check' counts; rounds are those of nodes, in the order in which the gates go.
 """
 
 import math
 import os
 import sys
 
+from by_layers import IN_LAYERS
 from doubts import told as listed
 from drawing import BOX, DIRECT, FAINT, INK, LINE, PARTIES, PREPARED, WHITE, Drawing, count, short, width_of
 from job_counts import counts_of
@@ -21,7 +22,8 @@ from job_folder import run_script
 WIDTH, MARGIN = 840, 24
 LAYOUTS = {'bristol': 'circuit of bits', 'ring': 'circuit of words', 'expr': 'expressions'}
 
-# What is said of products that are prepared, in both orders.
+# What is said of gates that go in layers, and of products that are prepared, in turn or all masks ahead.
+OF_LAYERS = ', gates in layers'
 OF_PREPARED = {'prepared': ', products prepared before the inputs', 'ahead': ', products prepared before the inputs, all masks first'}
 
 # So many groups and carrying arrows are drawn, and the others are counted.
@@ -161,8 +163,8 @@ class JobPicture:
     def session(self, number, session, width):
         top, height = self.y, 92
         self.drawing.box(MARGIN, top, width, height)
-        self.drawing.box(MARGIN, top, 6, height, PREPARED if session.order in OF_PREPARED else DIRECT, 'none', 3)
-        what = f'{session.file}, {LAYOUTS[session.layout]}{OF_PREPARED.get(session.order, "")}'
+        self.drawing.box(MARGIN, top, 6, height, PREPARED if session.way in OF_PREPARED else DIRECT, 'none', 3)
+        what = f'{session.file}, {LAYOUTS[session.layout]}{OF_LAYERS * (session.order == IN_LAYERS)}{OF_PREPARED.get(session.way, "")}'
         self.drawing.text(MARGIN + 18, top + 22, f'Session {number}', 13, weight='bold')
         self.drawing.text(MARGIN + 100, top + 22, short(what, 13, width - 120), 13, FAINT)
         carried = [f'session {earlier} ({many(wires, "wire")})' for earlier, wires in session.carries.items()]

@@ -37,7 +37,8 @@ LENGTHS = [0, 1, 16, 17, 63, 64, 65]
 
 # What may stand in some file, or in another version alone, or nowhere.
 LINES = [b'version = 1', b'version = 2', b'port = 65392', b'port = 0', b'hosts = ["h", "h", "h"]', b'tolerated = [[]]', b'tolerated = []',
-         b'formula = "1 of (a)"', b'[[session]]', b'[inputs]', b'products = "prepared"', b'products = "ahead"', b'owners = ["@0.0", "@0.1"]', b'readers = [[], []]', b'inputs = []', b'tape = ""',
+         b'formula = "1 of (a)"', b'[[session]]', b'[inputs]', b'products = "prepared"', b'products = "ahead"',
+         b'order = "layers"', b'order = "file"', b'owners = ["@0.0", "@0.1"]', b'readers = [[], []]', b'inputs = []', b'tape = ""',
          b'seed = "' + b'0' * 64 + b'"', b'x = 1', b'"" = 1', b'a.b = 1', b'x = 1979-05-27', b'x = inf', b'x = """',
          b'layout = "expr"', b'layout = "ring"', b'input x', b'let y = 2 * (x - 1)', b'let s = s', b'output x', b'output -(-1) * 3', b'output']
 

@@ -204,7 +204,7 @@ def circuit_text():
     """The file, whose gates stand round by round, and S-box by S-box in each."""
     c = Circuit([128, 128])
     key, block = map(columns_of, c.inputs)
-    return c.text([value_of(encrypted(c, min(boxes(), key=SBox.gates), key, block))], by_layers=False)
+    return c.text([value_of(encrypted(c, min(boxes(), key=SBox.gates), key, block))])
 
 
 def main(words):

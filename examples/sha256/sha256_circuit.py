@@ -171,7 +171,7 @@ def circuit_text(lengths, adder):
     """The file for parts of so many bytes."""
     c = Circuit([8 * length for length in lengths], MOST_SESSIONS * MOST_GATES)
     message = [value[place:place + 8] for value in c.inputs for place in range(len(value) - 8, -8, -8)]
-    return c.text([digest(c, adder, message)], by_layers=False)
+    return c.text([digest(c, adder, message)])
 
 
 def length_in(word):
