@@ -28,7 +28,7 @@ sys.path[1:1] = [str(EXAMPLES), str(EXAMPLES / 'sha256'), str(TOP / 'fuzz')]
 import cut  # noqa: E402
 import job_folder  # noqa: E402
 import sha256_circuit  # noqa: E402
-from by_layers import ORDERS, in_layers, read_circuit as read_gates, rounds  # noqa: E402
+from by_layers import ORDERS, WAYS  # noqa: E402
 from circuit_faults import CIRCUIT_FAULTS  # noqa: E402
 from circuit_files import CIRCUIT_FILES  # noqa: E402
 from circuit_reader import read_circuit  # noqa: E402
@@ -134,14 +134,12 @@ def expect_cost(program, folder, told):
     expect(total and list(map(int, total.groups())) == [len(lines), *sums], told)
 
 
-def expect_rounds(folder, job, told):
-    """That the sessions are in layers, and take the rounds that were told."""
-    for number, session in enumerate(job.sessions):
-        head, gates = read_gates(job_folder.read_bytes(folder, f'part_{number}.txt'))
-        given = [owner in job.parties for owner in session.owners]
-        found = [rounds(head, order, given, session.readers) for order in (gates, in_layers(gates))]
-        expect(found[0] == found[1] and f'\nsession {number} ' in told and f' rounds {found[0]} ' in told.split(f'\nsession {number} ')[1].split('\n')[0],
-               f'session {number} takes {found} rounds: {told}')
+def expect_rounds(folder, told):
+    """That the gates of each session go in layers, and take the rounds that were told."""
+    sessions = counts_of(folder).sessions
+    expect(all(session.order == 'layers' for session in sessions), f'{sessions}')
+    rounds = re.findall(r'^session \d+ .* rounds (\d+) ', told, re.M)
+    expect(list(map(int, rounds)) == [session.rounds for session in sessions], f'{[session.rounds for session in sessions]} rounds are counted: {told}')
 
 
 def expect_outputs(folder, job, out, sample, readers):
@@ -163,10 +161,11 @@ def cut_here(file, folder, parties, options):
     return '\n'.join([cut.told_of(circuit), *job.told()])
 
 
-def expect_other_orders(program, chance, folder, job, sample, readers):
-    """That the job writes the same where the products of each session are direct or prepared, in one of both orders, and costs what is counted."""
+def expect_other_ways(program, chance, folder, job, sample, readers):
+    """That the job writes the same where the products of each session are direct or prepared, in turn or ahead, and its gates go in any order, and costs what is
+    counted."""
     fields = job_folder.read_fields(folder)
-    sessions = [{**session, 'products': chance.choice(ORDERS)} for session in fields['session']]
+    sessions = [{**session, 'products': chance.choice(WAYS), 'order': chance.choice(ORDERS)} for session in fields['session']]
     job_folder.write_new(folder, 'job.toml', job_folder.job_text({**fields, 'session': sessions}).encode(), replace=True)
     expect_outputs(folder, job, call_program(program, 'run', folder), sample, readers)
     counted = [sum(session.messages.values()) + session.kept for session in counts_of(folder).sessions]
@@ -188,10 +187,10 @@ def try_cut(program, top, chance, sample, most, parties=('a', 'b', 'c'), tolerat
     expect_cost(program, folder, told)
     expect_outputs(folder, job, call_program(program, 'run', folder), sample, readers)
     if small:
-        expect_rounds(folder, job, told)
+        expect_rounds(folder, told)
         files = {path.name: path.read_bytes() for path in pathlib.Path(folder).iterdir()}
         expect_outputs(folder, job, out_in_the_clear(files), sample, readers)
-        expect_other_orders(program, chance, folder, job, sample, readers)
+        expect_other_ways(program, chance, folder, job, sample, readers)
     return told
 
 
@@ -406,7 +405,7 @@ def others_point_at_it(program, top):
     expect(done.returncode == 0 and done.stderr.startswith(b'circuits.py: the circuit has ') and done.stderr.endswith(b': examples/cut.py cuts it\n'), f'{done.stderr}')
     pathlib.Path(file).write_bytes(done.stdout)
     expect_one_line(call(CIRCUITS, 'job', folder, 'equal', '22000', 'a', 'b', 'c'), 'circuits.py job', 'circuits.py: the circuit has ')
-    done = call(BY_LAYERS, file, file + '.new', program)
+    done = call(BY_LAYERS, file, program)
     expect_one_line(done, 'by_layers.py', 'by_layers.py: refused circuit 7 TooLarge ')
     expect(done.stderr.endswith(b': examples/cut.py cuts it into sessions\n'), f'{done.stderr}')
     wrote(CUT, file, folder, 'a', 'b', 'c')

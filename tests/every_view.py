@@ -23,7 +23,7 @@ from rows import EXAMPLES, GROUPS
 from waits import MOST_SECONDS, told
 
 # Groups of rows that have jobs which are accepted.
-ACCEPTED = ['accepted', 'wide rings', 'tolerated', 'prepared', 'carried', 'expressions', 'parties', 'jobs']
+ACCEPTED = ['accepted', 'wide rings', 'tolerated', 'prepared', 'in layers', 'carried', 'expressions', 'parties', 'jobs']
 
 # So many jobs are random ones.
 RANDOM_JOBS = 24

@@ -100,6 +100,32 @@ PRODUCTS = [
       for text in ['Ahead', 'ahea', 'aheads', ' ahead', 'prepared ahead']),
 ]
 
+# The order of the gates is told in version 2 alone, after the products and before the owners.
+ORDERS = [
+    (TOP + SESSION + 'order = "file"\n', 'job 4 Unknown session=0 name=order'),
+    (TOP + SESSION + 'products = "direct"\norder = "layers"\n', 'job 4 Unknown session=0 name=order'),
+    (TOLERATING + 'order = "layers"\n' + SESSION, 'job 4 Unknown name=order'),
+    (TOLERATING + SESSION + 'orders = "layers"\n', 'job 4 Unknown session=0 name=orders'),
+    *((TOLERATING + f'[[session]]\ncircuit = "."\nlayout = ""\norder = {value}\n', 'job 5 WrongKind session=0 field=order')
+      for value in ['["layers"]', '[]', '1', 'true', '1\nproducts = ""\nowners = 1']),
+    (TOLERATING + '[[session]]\ncircuit = "."\nlayout = ""\norder = 1\nproducts = 1\n', 'job 5 WrongKind session=0 field=products'),
+    (TOLERATING + '[[session]]\ncircuit = "."\norder = 1\n', 'job 3 Missing session=0 field=layout'),
+    (TOLERATING + '[[session]]\ncircuit = "."\nlayout = ""\norder = ""\n', 'job 3 Missing session=0 field=owners'),
+    (TOLERATING + '[[session]]\ncircuit = "."\nlayout = ""\norder = ""\nowners = []\nreaders = 1\n', 'job 5 WrongKind session=0 field=readers'),
+    (TOLERATING + BAD_SESSION.replace('expr', 'none') + 'circuit = "m"\norder = ""\n', 'job 11 BadLayout session=0'),
+    (TOLERATING + BAD_SESSION + 'circuit = "m"\norder = ""\nproducts = ""\n', 'job 17 BadProducts session=0'),
+    (TOLERATING + BAD_SESSION + 'circuit = "m"\norder = ""\nproducts = "ahead"\n', 'job 22 BadOrder session=0'),
+    (TOLERATING + BAD_SESSION + 'circuit = "m"\norder = ""\n', 'job 22 BadOrder session=0'),
+    (TOLERATING + BAD_SESSION + 'circuit = "m"\norder = "file"\n', 'job 7 BadOwner session=0 at=1'),
+    (TOLERATING + BAD_SESSION + 'circuit = "m"\norder = "layers"\n', 'job 7 BadOwner session=0 at=1'),
+    (TOLERATING + BAD_SESSION.replace('"d"', '"a"') + 'circuit = "m"\norder = "layer"\n', 'job 22 BadOrder session=0'),
+    (TOLERATING + BAD_SESSION.replace('"d"', '"a"') + 'circuit = "m"\norder = "layers"\n', 'job 8 BadReader session=0 value=0 at=1'),
+    (TOLERATING + BAD_SESSION + 'circuit = "m"\norder = "file"\n' + SESSION + 'order = ""\n', 'job 7 BadOwner session=0 at=1'),
+    (TOLERATING + 2 * (SESSION + 'order = ""\n'), 'job 22 BadOrder session=0'),
+    *((TOLERATING + SESSION + 'order = "layers"\n' + SESSION + f'order = "{text}"\n', 'job 22 BadOrder session=1')
+      for text in ['', 'Layers', 'LAYERS', 'layer', 'layerss', ' layers', 'layers ', 'by layers', 'File', 'fil', 'files', 'ahead', 'layers\\u0000']),
+]
+
 # In version 2 an owner may be an output value below 1,024 of an earlier session, in numbers without leading zeros. Whatever else begins with an
 # at sign is told apart from what is no party; the first of both is told.
 CARRIES = [
@@ -168,7 +194,7 @@ def refused(words, text, fault):
 
 
 JOB_FILES = [
-    *(refused(CHECK, text, fault) for table in [VERSIONS, UNKNOWN_FIELDS, TOP_FIELDS, BITS_AND_NAMES, SESSION_FIELDS, SESSION_VALUES, PRODUCTS,
+    *(refused(CHECK, text, fault) for table in [VERSIONS, UNKNOWN_FIELDS, TOP_FIELDS, BITS_AND_NAMES, SESSION_FIELDS, SESSION_VALUES, PRODUCTS, ORDERS,
                                                 CARRIES, HOSTS_AND_PORTS, FRAMES_AND_VIEWS, FIELDS_OF_VERSIONS, TOLERATED_GROUPS] for text, fault in table),
     Row('a_byte_of_no_text_in_a_job', CHECK, [Whole('job.toml', b"version = '\xff'")], status=3, err='refused job 1 NotToml\n'),
     Row('texts_in_single_quotes', CHECK, [Whole('job.toml', JOB.replace('"', "'").encode())], out=COUNTS_OF_A_PRODUCT),

@@ -27,6 +27,7 @@ from accepted_runs import ACCEPTED  # noqa: E402
 from carried_runs import CARRIED_RUNS  # noqa: E402
 from expressions import EXPR, EXPRESSIONS, SQUARE_OF_A_SUM  # noqa: E402
 from in_the_clear import fields, out_in_the_clear  # noqa: E402
+from ordered_runs import ORDERED_RUNS  # noqa: E402
 from prepared_runs import PREPARED_RUNS  # noqa: E402
 from product import Edit, Whole, product_with  # noqa: E402
 from random_expressions import random_job, with_circuits  # noqa: E402
@@ -124,7 +125,7 @@ def expect_faults(ended, begins):
 
 
 def accepted_jobs(program):
-    for row in [*ACCEPTED, *WIDE_RINGS, *TOLERATED, *PREPARED_RUNS, *CARRIED_RUNS, *EXPRESSIONS]:
+    for row in [*ACCEPTED, *WIDE_RINGS, *TOLERATED, *PREPARED_RUNS, *ORDERED_RUNS, *CARRIED_RUNS, *EXPRESSIONS]:
         if row.out.startswith('out ') and '--view' not in row.words and len(row.out) <= MOST_WRITTEN:
             for files in of_both_forms(row.files()):
                 expect_written(files, run(program, files))

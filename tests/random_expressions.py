@@ -24,7 +24,7 @@ import tempfile
 TOP = pathlib.Path(__file__).resolve().parent.parent
 sys.path[1:1] = [str(TOP / 'examples'), str(TOP / 'fuzz')]
 
-from by_layers import ORDERS  # noqa: E402
+from by_layers import IN_LAYERS, WAYS  # noqa: E402
 from in_the_clear import fields, out_in_the_clear  # noqa: E402
 from job_folder import job_text  # noqa: E402
 from mutate import CHANGES  # noqa: E402
@@ -164,7 +164,10 @@ def some_words(chance, bits, count):
 
 
 # How the products of a session are computed.
-PRODUCTS_FIELDS = [{}, {}, *({'products': order} for order in ORDERS for _ in range(1 + (order != 'direct')))]
+PRODUCTS_FIELDS = [{}, {}, *({'products': way} for way in WAYS for _ in range(1 + (way != 'direct')))]
+
+# In which order its gates go.
+ORDER_FIELDS = [{}, {}, {'order': IN_LAYERS}]
 
 
 def random_job(chance):
@@ -178,7 +181,8 @@ def random_job(chance):
         program = chance.choice([programs[number], programs[number], programs[0]])
         owners = chance.choices([*parties, *chance.sample(sorted(earlier), min(len(earlier), 3))], k=program.inputs)
         readers = [chance.sample(parties, chance.randrange(len(parties) + 1)) for _ in range(program.outputs)]
-        sessions.append({'circuit': program.name, 'layout': 'expr', 'owners': owners, 'readers': readers, **chance.choice(PRODUCTS_FIELDS)})
+        sessions.append({'circuit': program.name, 'layout': 'expr', 'owners': owners, 'readers': readers, **chance.choice(PRODUCTS_FIELDS),
+                         **chance.choice(ORDER_FIELDS)})
         inputs = [earlier.get(owner, word) for owner, word in zip(owners, some_words(chance, bits, program.inputs))]
         for kept, given in ((words, inputs), (other, [chance.choice([word, word, *some_words(chance, bits, 1)]) for word in inputs])):
             for name in parties:

@@ -4,8 +4,9 @@
 Two nodes and a party that goes one slot after another end a job together, each with its outputs. A node whose peer stops after any byte of what it
 says has said a first part of what it is to say, and all that stands before the first word that it then waits for: the posts of a whole batch of
 slots, and those of the batches before. So three products that need not wait for one another are posted before a word of the first is there. Both
-hold of named and of short frames. And the nodes of jobs with direct sessions and prepared ones of both orders take as many rounds on the wire as examples/job_counts.py
-counts: this needs a C compiler (bench/relay.py), and is left out, and told so, where there is none. Ends with status 1, and tells why, where a node does otherwise.
+hold of named and of short frames. And the nodes of jobs with direct sessions and prepared ones, in turn and ahead, and of AES-128 with its gates in layers take as many
+rounds on the wire as examples/job_counts.py counts, AES-128 no more than 46: this needs a C compiler (bench/relay.py), and is left out, and told so, where
+there is none. Ends with status 1, and tells why, where a node does otherwise.
 """
 
 import contextlib
@@ -22,7 +23,7 @@ import tempfile
 TOP = pathlib.Path(__file__).resolve().parent.parent
 sys.path[1:1] = [str(TOP / 'bench'), str(TOP / 'examples'), str(TOP / 'examples/network')]
 import nodes  # noqa: E402
-from by_layers import read_circuit  # noqa: E402
+from by_layers import IN_LAYERS, read_circuit  # noqa: E402
 from job_counts import counts_of  # noqa: E402
 from job_folder import read_fields  # noqa: E402
 from peers import Peers  # noqa: E402
@@ -35,6 +36,10 @@ FORMS = ['named', 'short']
 # Jobs of which rounds are counted on the wire, and how often, since a busy machine makes one more of one.
 COUNTED = ['network', 'prepared', 'prepared/direct', 'prepared/ahead', 'prepared/mixed', 'running_total']
 TRIES = 5
+
+# AES-128 of a key and a block, and the most rounds that it may take.
+AES = ['2b7e151628aed2a6abf7158809cf4f3c', '3243f6a8885a308d313198a2e0370734']
+MOST_ROUNDS = 46
 
 # Three products that need none of one another, one that needs two of them, and a sum that needs it: the batches begin in slots 0, 3, 6 and 7.
 CIRCUIT = '5 8\n3 1 1 1\n1 1\n2 1 0 1 3 MUL\n2 1 1 2 4 MUL\n2 1 0 2 5 MUL\n2 1 3 4 6 MUL\n2 1 5 6 7 ADD\n'
@@ -176,6 +181,16 @@ def nodes_take_their_rounds(program, job):
     expect(min(found) == wanted, f'{job}: rounds {found} on the wire, and not {wanted}')
 
 
+def aes_takes_few_rounds(program):
+    """By the field of its session alone, over the file as it is made."""
+    with tempfile.TemporaryDirectory() as top:
+        job = os.path.join(top, 'aes')
+        subprocess.run([sys.executable, TOP / 'examples/aes/job.py', 'make', job, *AES], check=True, stdin=subprocess.DEVNULL)
+        [session] = counts_of(job).sessions
+        expect(session.order == IN_LAYERS and session.rounds <= MOST_ROUNDS, f'AES-128 takes {session.rounds} rounds with its gates in the order {session.order}')
+        nodes_take_their_rounds(program, job)
+
+
 def batch_of_slots(job):
     """The first slot of the batch of each slot: a slot begins one where it reads a wire that an input or a product of the batch before it sets."""
     head, gates = read_circuit(pathlib.Path(job, 'circuit.txt').read_bytes())
@@ -253,10 +268,12 @@ def main(words):
                 parties_of_both_orders(program, top, str(TOP / 'examples' / example), form)
         for example in COUNTED if shutil.which('cc') else []:
             nodes_take_their_rounds(program, str(TOP / 'examples' / example))
+        if shutil.which('cc'):
+            aes_takes_few_rounds(program)
     except (Wrong, OSError, subprocess.SubprocessError) as wrong:
         print(f'rounds: NOT AS EXPECTED: {wrong}')
         return 1
-    counted = f'the rounds of {len(COUNTED)} jobs on the wire' if shutil.which('cc') else 'no rounds on the wire, for want of cc'
+    counted = f'the rounds of {len(COUNTED)} jobs and of AES-128 on the wire' if shutil.which('cc') else 'no rounds on the wire, for want of cc'
     print(f'rounds: {runs} nodes whose peer stops, parties of both orders, and {counted}: as expected')
     return 0
 

@@ -25,6 +25,7 @@ from in_the_clear import out_in_the_clear
 from job_faults import JOB_FAULTS
 from job_files import JOB_FILES
 from made_rows import LONG_FORMULAS, LONG_JOBS, LONG_LISTS, front_rows, ring_rows, worker_rows
+from ordered_runs import ORDERED_RUNS
 from other_words import OTHER_WORDS
 from pairs import OTHER_FAULTS, PAIR_FAULTS, PAIRS
 from party_faults import PARTY_FAULTS
@@ -43,6 +44,7 @@ GROUPS = {
     'wide rings': WIDE_RINGS,
     'tolerated': TOLERATED,
     'prepared': PREPARED_RUNS,
+    'in layers': ORDERED_RUNS,
     'carried': CARRIED_RUNS,
     'carried widths': CARRIED_WIDTHS,
     'carried pairs and audits': [*CARRIED_PAIRS, *CARRIED_AUDITS],
@@ -70,7 +72,7 @@ GROUPS = {
 }
 
 # Those of which each run that writes outputs is computed in the clear.
-IN_THE_CLEAR = ['accepted', 'wide rings', 'tolerated', 'prepared', 'carried', 'carried widths', 'expressions']
+IN_THE_CLEAR = ['accepted', 'wide rings', 'tolerated', 'prepared', 'in layers', 'carried', 'carried widths', 'expressions']
 
 
 def call(program, row):

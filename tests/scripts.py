@@ -36,6 +36,7 @@ from expressions import EXPRESSIONS, FAULTY_EXPRESSIONS  # noqa: E402
 from in_the_clear import circuit_of, fields as fields_of, last_wires, out_in_the_clear  # noqa: E402
 from mutate import CHANGES  # noqa: E402
 from odd_folders import ODD_FOLDERS  # noqa: E402
+from orders import sorted_lines  # noqa: E402
 from product import SESSION, product_with  # noqa: E402
 from random_expressions import SCRIPT, with_circuits  # noqa: E402
 from views import lines_with  # noqa: E402
@@ -170,18 +171,6 @@ def circuits_are_their_numbers(program, top):
         expect(found == [sum(words) % 2**64], f'total {count}: {words} come to {found}')
 
 
-def layers_are_together(program, top):
-    """In a file, the products that can be computed at once stand together, and no more layers than the longest path has."""
-    circuit = circuit_of(circuit_file('auction', ['4', '16']).encode())
-    depths = dict.fromkeys(range(sum(circuit[0])), 0)
-    order = []
-    for operation, operands, output in circuit[3]:
-        depths[output] = max((depths[wire] for wire in operands), default=0) + (operation == 'AND')
-        order.append((depths[output], operation != 'AND') if operation != 'EQW' else (max(depths.values()), True))
-    expect(order == sorted(order), 'the gates are not in layers')
-    expect(order[-1][0] == 21, f'{order[-1][0]} layers')
-
-
 def shuffled(chance, text):
     """The same circuit with its gates in some order in which each wire is set before it is read."""
     lines = [line for line in text.split('\n') if line.split()]
@@ -196,35 +185,30 @@ def shuffled(chance, text):
     return '\n'.join([*lines[:3], *order]) + '\n'
 
 
-def circuits_come_into_layers(program, top):
-    """A circuit in layers has the same gates and comes to the same, and takes no more rounds than its depth and two more. Where its products are
-    prepared there are as many rounds more as there are products, or one where all are prepared ahead."""
+def rounds_in_layers_are_few(program, top):
+    """In layers a circuit takes no more rounds than its depth and two more, and no more than in the order of the file. Where its products are prepared there
+    are as many rounds more as there are products, or one where all are prepared ahead. Nothing is written."""
     chance = random.Random(2)
-    for number, (name, words, bits) in enumerate([('auction', ['3', '4'], 1), ('multiply', ['5'], 1), ('less', ['8'], 1), ('total', ['6'], 64)]):
+    for number, (name, words) in enumerate([('auction', ['3', '4']), ('multiply', ['5']), ('less', ['8']), ('total', ['6'])]):
         text = shuffled(chance, circuit_file(name, words))
-        old, new = (os.path.join(top, f'{number}_{which}.txt') for which in ('old', 'new'))
-        pathlib.Path(old).write_text(text, encoding='utf-8')
-        told = wrote(BY_LAYERS, old, new, program).split()
-        found = pathlib.Path(new).read_text(encoding='utf-8')
-        expect(sorted(found.split('\n')) == sorted(text.split('\n')), f'{name}: other gates')
+        file = os.path.join(top, f'{number}.txt')
+        pathlib.Path(file).write_text(text, encoding='utf-8')
+        told = wrote(BY_LAYERS, file, program).split()
         products, depth, before, after = (int(told[place]) for place in (1, 3, 5, 7))
         expect(products == len(re.findall('AND|MUL', text)) and depth + 1 <= after <= min(before, depth + 2), f'{name}: {told}')
-        expect(told[8:17:8] == ['prepared', 'ahead'] or told[8] == 'prepared' and told[17] == 'ahead', f'{name}: {told}')
+        expect([told[8], told[17]] == ['prepared', 'ahead'], f'{name}: {told}')
         for first, earlier in ((8, products), (17, min(products, 1))):
             expect([int(told[first + place]) for place in (2, 6, 8)] == [earlier, earlier, after] and int(told[first + 4]) >= before, f'{name}: {told}')
-        for _ in range(20):
-            inputs = [chance.randrange(2**bits) for _ in range(sum(circuit_of(text.encode())[0]))]
-            expect(last_wires(circuit_of(text.encode()), inputs, bits) == last_wires(circuit_of(found.encode()), inputs, bits), f'{name}: another result')
-        again = wrote(BY_LAYERS, new, f'{new}.again', program).split()
+        pathlib.Path(file).write_text(sorted_lines(text), encoding='utf-8')
+        again = wrote(BY_LAYERS, file, program).split()
         expect(again[5] == again[7] == told[7], f'{name}: {again}')
-        expect(pathlib.Path(f'{new}.again').read_text(encoding='utf-8') == found, f'{name}: sorted twice it is another file')
+    expect(len(os.listdir(top)) == 4, f'{os.listdir(top)}')
     for number, text in enumerate(['', '1 3\n1 2\n1 1\n2 1 0 3 2 AND\n', '1 3\n1 2\n1 1\n2 1 0 1 2 NAND\n', '2 3\n1 2\n1 1\n2 1 0 1 2 AND\n', 'x\n']):
-        old = os.path.join(top, f'refused_{number}.txt')
-        pathlib.Path(old).write_text(text, encoding='utf-8')
-        done = call(BY_LAYERS, old, f'{old}.new', program)
+        file = os.path.join(top, f'refused_{number}.txt')
+        pathlib.Path(file).write_text(text, encoding='utf-8')
+        done = call(BY_LAYERS, file, program)
         expect_one_line(done, f'by_layers.py {text!r}', 'by_layers.py: refused circuit ')
-        expect(f' file={old} ' in done.stderr.decode(), f'{done}')
-        expect(not os.path.exists(f'{old}.new'), f'by_layers.py {text!r} wrote a file')
+        expect(f' file={file} ' in done.stderr.decode(), f'{done}')
     expect_one_line(call(BY_LAYERS, os.path.join(top, 'none.txt')), 'by_layers.py of no file', 'by_layers.py: ')
 
 
@@ -265,22 +249,27 @@ ENCRYPTED = [('2b7e151628aed2a6abf7158809cf4f3c', '3243f6a8885a308d313198a2e0370
 
 
 def aes_is_the_standards(program, top):
-    """A block is encrypted as the standard's examples say, in the clear, by a run and by nodes, by the circuit as it is made and in layers."""
+    """A block is encrypted as the standard's examples say, in the clear, by a run and by nodes, with the gates in layers and in the order of the file."""
     for number, (key, block, encrypted) in enumerate(ENCRYPTED):
-        made, sorted_job = (os.path.join(top, f'{number}_{order}') for order in ('made', 'layers'))
+        made, in_file = (os.path.join(top, f'{number}_{order}') for order in ('layers', 'file'))
         wrote(AES, 'make', made, key, block)
-        shutil.copytree(made, sorted_job)
-        os.remove(os.path.join(sorted_job, 'aes.txt'))
-        told = wrote(BY_LAYERS, os.path.join(made, 'aes.txt'), os.path.join(sorted_job, 'aes.txt'), program)
+        shutil.copytree(made, in_file)
+        fields = job_folder.read_fields(made)
+        [session] = fields['session']
+        expect(session.pop('order') == 'layers', f'{fields}')
+        job_folder.write_new(in_file, 'job.toml', job_folder.job_text(fields).encode(), replace=True)
+        told = wrote(BY_LAYERS, os.path.join(made, 'aes.txt'), program)
         expect(told == 'products 7200 depth 40 rounds 2402 rounds_in_layers 42\n'
                'prepared before 7200 rounds 4402 before_in_layers 7200 rounds_in_layers 42\nahead before 1 rounds 4402 before_in_layers 1 rounds_in_layers 42\n', told)
-        for folder in (made, sorted_job):
+        for folder, rounds in [(made, 42), (in_file, 2402)]:
             files = {file.name: file.read_bytes() for file in pathlib.Path(folder).iterdir()}
             done = subprocess.run([program, 'run', folder], capture_output=True, text=True, timeout=MOST_SECONDS)
             # (both folders have the same seeds)
             for out in (out_in_the_clear(files), done.stdout, wrote(NODES, 'run', folder, program, doubts=True)):
                 found = wrote(AES, 'read', folder, given=out)
                 expect(found == f'study reads {encrypted}\n', f'{key} {block}: {done.stderr} {found}')
+            [counts] = job_counts.counts_of(folder).sessions
+            expect(counts.rounds == rounds, f'{folder}: {counts.rounds} rounds are counted')
     expect(wrote(AES_CIRCUIT) == pathlib.Path(made, 'aes.txt').read_text(), 'aes_circuit.py prints another circuit')
     for words in [['0' * 32, '0' * 31], ['0' * 32, '0' * 33], ['x' * 32, '0' * 32], ['-' + '0' * 31, '0' * 32], ['0' * 32, '٣' * 32]]:
         expect_one_line(call(AES, 'make', os.path.join(top, 'none'), *words), f'job.py make {words}', 'job.py: ')
@@ -621,7 +610,8 @@ def jobs_of_calls(program, top):
 def jobs_with_helpers(program, top):
     """A helper gives and reads nothing, and the groups that must learn nothing are those that are named."""
     for number, (words, givers, helpers, tolerated) in enumerate([
-            (['auction', '8', 'ann', 'bob', '--helper', 'house'], 2, ['house'], None), (['total', '8', 'ann', '--helper', 'h', '--helper', 'i'], 1, ['h', 'i'], None),
+            (['auction', '8', 'ann', 'bob', '--helper', 'house'], 2, ['house'], [['ann'], ['bob'], ['house']]),
+            (['total', '8', 'ann', '--helper', 'h', '--helper', 'i'], 1, ['h', 'i'], [['ann'], ['h'], ['i']]),
             (['auction', '8', 'a', 'b', 'c', 'd', 'e', '--tolerated', 'a+b,c+d,e'], 5, [], [['a', 'b'], ['c', 'd'], ['e']]),
             (['less', '8', 'a', 'b', '--tolerated', 'a,b', '--helper', 'c', '--helper', 'd'], 2, ['c', 'd'], [['a'], ['b']])]):
         folder = os.path.join(top, str(number))
@@ -631,7 +621,8 @@ def jobs_with_helpers(program, top):
         knows = 'warning: c and d may each know everything: no group that must learn nothing has any of them\n' if number == 3 else ''
         expect(done.stderr.decode() == (f'circuits.py: {knows}' if knows else ''), f'{words}: {done}')
         expect(len(session['owners']) == givers and fields['parties'] == session['owners'] + helpers, f'{words}: {fields}')
-        expect(all(readers == session['owners'] for readers in session['readers']) and fields.get('tolerated') == tolerated, f'{words}: {fields}')
+        expect(all(readers == session['owners'] for readers in session['readers']) and fields['tolerated'] == tolerated, f'{words}: {fields}')
+        expect(fields['version'] == 2 and session['order'] == 'layers', f'{words}: {fields}')
         checked = subprocess.run([program, 'check', folder], capture_output=True, text=True, timeout=MOST_SECONDS)
         expect(checked.returncode == 0, f'{words}: {checked.stderr}')
     for words, text in [(['auction', '8', 'ann', 'bob'], 'auction: where each party alone must learn nothing, a job wants three of them, and 2 are named'),
@@ -684,13 +675,12 @@ def doubts_are_told(program, top):
            f'{wrote_line}')
     expect(not told(NODES, 'run', EXAMPLES / 'statistics', program), 'an example is told of')
     job = pathlib.Path(folder, 'job.toml')
-    for old, new, line in [('2 of (ann, bob, cleo)', 'ann | bob & cleo', 'ann alone may know everything: no group that must learn nothing has this party'),
-                           ('version = 1', 'version = 2', 'ann, bob and cleo may each know everything: no group that must learn nothing has any of them')]:
-        job.write_text(job.read_text().replace(old, new))
-        if new == 'version = 2':
-            job.write_text(re.sub('formula = .*', 'tolerated = []', job.read_text()))
+    listed = job.read_text().replace('order = "layers"\n', '')
+    for version, structure, line in [(1, 'formula = "ann | bob & cleo"', 'ann alone may know everything: no group that must learn nothing has this party'),
+                                     (2, 'tolerated = []', 'ann, bob and cleo may each know everything: no group that must learn nothing has any of them')]:
+        job.write_text(re.sub('(?m)^tolerated = .*', structure, listed.replace('version = 2', f'version = {version}')))
         found = told(NUMBERS, 'write', folder, 'ann', '5', '--replace')
-        expect(found.startswith(f'numbers.py: warning: {line}\n'), f'{new}: {found}')
+        expect(found.startswith(f'numbers.py: warning: {line}\n'), f'{structure}: {found}')
 
 
 def formulas_are_those_of_the_rows(program, top):
@@ -1036,7 +1026,7 @@ def helps_are_there(program, top):
         expect(done.returncode == 2 and not done.stdout and f'{script.name} '.encode() in done.stderr, f'{script.name} {words}: {done}')
 
 
-CASES = [circuits_are_their_numbers, layers_are_together, circuits_come_into_layers, s_boxes_are_the_standards, aes_is_the_standards,
+CASES = [circuits_are_their_numbers, rounds_in_layers_are_few, s_boxes_are_the_standards, aes_is_the_standards,
          circuits_have_limits, numbers_come_back, numbers_are_signed_and_divided, numbers_that_do_not_fit, other_lines_are_refused,
          views_are_passed_over, outputs_that_fail, programs_that_are_not_there, programs_that_are_late, a_gate_that_is_late, odd_folders, links_and_folders,
          changed_jobs_are_read_or_refused, expressions_are_words, refusals_are_those_of_the_rows,
