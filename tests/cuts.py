@@ -2,7 +2,7 @@
 """Runs examples/cut.py and the scripts of examples/sha256: cuts.py PROGRAM
 
 Random circuits of bits and of words, whole and cut at several sizes, must come to what plain evaluation gives, at the cost that is told, also where products are
-prepared, in both orders. What
+prepared, in turn or ahead, and gates go in the order of the file. What
 'mpc check' refuses of a circuit is refused with the same words, and what is past a limit of a job in one line. Digests are compared with
 Python's own. Ends with status 1, and tells why, where something ends otherwise. The largest circuits are among the jobs of bench/make_jobs.py.
 """

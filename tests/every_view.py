@@ -1,7 +1,7 @@
 #!/usr/bin/env python3
 """Audits what runs write of views: every_view.py PROGRAM
 
-For each job of the rows that is accepted, each example, and random jobs whose products are direct and prepared in both orders, runs it with the view of each group,
+For each job of the rows that is accepted, each example, and random jobs whose products are direct, prepared and ahead, runs it with the view of each group,
 and audits what stands behind the outputs: the answer must be yes, with as many messages as there are lines. What the node of each party tells of its own view must be the same text. Then changes a small view in one byte at each place, and audits each changed text:
 the answer must be the one that the table of faults gives, as a reader of views in this file finds it. Ends with status 1, and tells why, where
 an answer is another.

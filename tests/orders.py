@@ -3,7 +3,7 @@
 
 Random circuits of bits and of words, with wires in any order, are sorted here as slowly and plainly as the definition says. A job with order = "layers" must
 write what the job with the sorted files writes, byte by byte, also the view of all parties, and cost the same; its outputs must be what the circuits come to
-in the clear. Products are direct, or prepared in both ways, and values go on into sessions of the other order. Ends with status 1, and tells why, where
+in the clear. Products are direct, prepared or ahead, and values go on into sessions of the other order. Ends with status 1, and tells why, where
 a job writes something else.
 """
 

@@ -2,7 +2,7 @@
 """Runs a program over jobs of random expressions: random_expressions.py PROGRAM COUNT [SEED]
 
 Each of COUNT tries is a job of one to six parties, random groups that must learn nothing, a ring of 1 to 64 bits, and one to three sessions of
-the layout 'expr', whose products are direct or prepared, in both orders, and which may carry on what earlier ones came to. What 'run' writes must be what Python's own integers come to. The same job with the circuits that examples/expressions.py
+the layout 'expr', whose products are direct, prepared or ahead, whose gates go in the order of the file or in layers, and which may carry on what earlier ones came to. What 'run' writes must be what Python's own integers come to. The same job with the circuits that examples/expressions.py
 makes of its files must write the same by 'run --view', 'check' and 'pair'. Then a file is changed in some places: the program must refuse it as
 examples/expressions.py does, or take it as the circuit that it makes. Try N of a SEED (0 where it isn't given) is the same each time.
 Ends with status 1, and keeps the files, where a try goes wrong.
