@@ -4,8 +4,8 @@
 Ring circuits of 4,096 to 65,536 gates, a quarter of them products, a circuit of bits with as many gates of each kind as a
 circuit of AES-128 has, one of products alone that eight sessions compute, another for five parties, and the job that 'mpc sample 65536'
 makes. Of the largest ring circuit and of the one of bits there is a job with prepared products, too, and one of eight sessions of which every other one prepares its
-products. With 'limits', in their place, jobs as large as the program takes: the most products, the deepest circuit (each gate squares what the one before it set) and the widest (all wires are
-inputs or outputs), and a circuit of bits of sixteen times 65,536 gates, which examples/cut.py cuts into sixteen sessions. With 'cut', such circuits of bits and of
+products. With 'limits', in their place, jobs as large as the program takes: the most products, the deepest circuit (each gate squares what the one before it set), also with its gates in layers, a mixed one in
+layers, and the widest (all wires are inputs or outputs), and a circuit of bits of sixteen times 65,536 gates, which examples/cut.py cuts into sixteen sessions. With 'cut', such circuits of bits and of
 words of 8, 32 and 64 bits. Each folder gets the job, its circuits, three party files with seeds, and 'expected', the text that 'mpc run' must
 write, computed from the plain circuit. The same call always makes the same files.
 
@@ -119,10 +119,11 @@ def negate_an_input(operation, wire, numbers):
     return [wire - MOST_GATES]
 
 
-def write(folder, name, layout, bits, widths, outputs, operations, numbers, sessions=1, choose=operands, known=None, seeds=None, sharing=THREE, prepared=()):
+def write(folder, name, layout, bits, widths, outputs, operations, numbers, sessions=1, choose=operands, known=None, seeds=None, sharing=THREE, prepared=(),
+          order=None):
     """Writes one job: the inputs are given by a, b, .. in turn, the last wires are the output values of these widths, which all read.
-    All sessions have the same circuit, and inputs of their own; those of these numbers prepare their products. The words of the input wires and the parties'
-    seeds are 'known' and 'seeds', where they are there."""
+    All sessions have the same circuit, and inputs of their own; those of these numbers prepare their products. Their gates go in this order, where one is named.
+    The words of the input wires and the parties' seeds are 'known' and 'seeds', where they are there."""
     path = os.path.join(folder, name)
     os.makedirs(path)
     parties = sharing.parties
@@ -167,13 +168,13 @@ def write(folder, name, layout, bits, widths, outputs, operations, numbers, sess
     texts = lambda items: '[' + ', '.join(f'"{item}"' for item in items) + ']'
     readers = '[' + ', '.join([texts(parties)] * len(outputs)) + ']'
     session_text = (f'[[session]]\ncircuit = "circuit.txt"\nlayout = "{layout}"\nowners = {texts(owners)}\n'
-                    f'readers = {readers}\n')
+                    f'readers = {readers}\n' + (f'order = "{order}"\n' if order else ''))
     sharing_text = f'formula = "{sharing.formula}"'
-    if prepared:
+    if prepared or order:
         sharing_text = f'tolerated = [{", ".join(map(texts, sharing.tolerated))}]'
     files = {
         'circuit.txt': circuit,
-        'job.toml': f'version = {2 if prepared else 1}\nring_bits = {bits}\nparties = {texts(parties)}\n{sharing_text}\n'
+        'job.toml': f'version = {2 if prepared or order else 1}\nring_bits = {bits}\nparties = {texts(parties)}\n{sharing_text}\n'
                     + ''.join(session_text + ('products = "prepared"\n' if session in prepared else '') for session in range(sessions)),
         'expected': expected,
     }
@@ -260,6 +261,8 @@ def write_limits(folder):
     products = ['MUL'] * MOST_GATES
     write(folder, 'most_products', 'ring', 32, [1] * INPUT_WIRES, [1], products, Numbers(1))
     write(folder, 'deepest', 'ring', 32, [1], [1], products, Numbers(2), choose=square_the_last)
+    write(folder, 'deepest_in_layers', 'ring', 32, [1], [1], products, Numbers(2), choose=square_the_last, order='layers')
+    write(folder, 'mixed_in_layers', 'ring', 32, [1] * INPUT_WIRES, [1], [['MUL', 'ADD', 'SUB', 'NEG'][i % 4] for i in range(MOST_GATES)], Numbers(4), order='layers')
     values = [MOST_GATES // MOST_VALUES] * MOST_VALUES
     write(folder, 'widest', 'ring', 32, values, values, ['NEG'] * MOST_GATES, Numbers(3), choose=negate_an_input)
     write_cut(folder, 'cut_bits', 1)

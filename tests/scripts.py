@@ -749,15 +749,21 @@ def expect_texts_inside(picture, name):
 
 
 def jobs_are_drawn(program, top):
-    """Also one of a single party, and those of six and of twelve with the longest names; and what isn't a job is refused."""
+    """Also one of a single party, and those of six and of twelve with the longest names, in layers and prepared; and what isn't a job is refused."""
     names, wide = [f'a{number:015}' for number in range(12)], [f'm{number:02}' + 13 * 'W' for number in range(12)]
     for path in [*EXAMPLES.glob('*/job.svg'), *TOP.glob('docs/pictures/*.svg')]:
         expect_texts_inside(path.read_text(encoding='utf-8'), path.name)
     for parties, tolerated in [(names, [[name] for name in names]), (wide, [[name] for name in wide]), (wide[:6], [wide[:2], wide[2:4]]), (['a'], []), (['a', 'b'], [[]])]:
-        sessions = [{'circuit': 'f.txt', 'layout': 'expr', 'owners': ['@0.0' if number else parties[0], parties[-1]], 'readers': [parties]} for number in range(16)]
+        sessions = [{'circuit': 'f.txt', 'layout': 'expr', 'owners': ['@0.0' if number else parties[0], parties[-1]], 'readers': [parties],
+                     **({'products': 'ahead', 'order': 'layers'} if number % 2 else {})} for number in range(16)]
         fields = {'version': 2, 'ring_bits': 8, 'parties': parties, 'tolerated': tolerated, 'session': sessions}
         folder = write_folder(top, {'f.txt': b'input x\ninput y\noutput x * y\n', 'job.toml': job_folder.job_text(fields).encode()})
         expect_texts_inside(wrote(PICTURE, folder), parties)
+    for field in ['products', 'order']:
+        text = job_folder.job_text({**fields, 'session': [{**sessions[0], field: 'none'}]})
+        job_folder.write_new(folder, 'job.toml', text.encode(), replace=True)
+        expect_one_line(call(PICTURE, folder), f'picture.py with other {field}', f'picture.py: {folder}/job.toml: {field} is none of ')
+    job_folder.write_new(folder, 'job.toml', job_folder.job_text(fields).encode(), replace=True)
     for name in ['f.txt', 'job.toml']:
         pathlib.Path(folder, name).write_text('output\n')
         expect_one_line(call(PICTURE, folder), f'picture.py with another {name}', 'picture.py: ')
