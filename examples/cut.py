@@ -273,8 +273,8 @@ class PartFile:
         lines += [f'1 1 {numbers[wire]} {number} EQW' for wire, number in self.copies]
         return '\n'.join(lines) + '\n'
 
-    def rounds(self, readers):
-        """The rounds of nodes: the batches that say something, with the gates in layers."""
+    def rounds(self, told):
+        """The rounds of nodes: the batches that say something, with the gates in layers, where it is known which output values are told to somebody."""
         circuit, part = self.circuit, self.part
         given, firsts, seconds = set(circuit.input_wires(part.given)), circuit.firsts, circuit.seconds
         slots = [([], wire, True, wire in given) for wire in part.inputs]
@@ -282,7 +282,7 @@ class PartFile:
             product = circuit.operations[wire] in PRODUCTS
             slots.append(((firsts[wire], seconds[wire]), wire, product, product))
         for value in part.read:
-            slots += [([wire], NOTHING, False, bool(readers[value])) for wire in circuit.output_wires([value])]
+            slots += [([wire], NOTHING, False, told[value]) for wire in circuit.output_wires([value])]
         return len(talking_batches(slots))
 
 
@@ -328,7 +328,8 @@ class Job:
 
     def told(self):
         """What it costs, session by session and as a whole."""
-        rounds = [file.rounds(self.readers) for file in self.files]
+        told = [self.sharing.of_output(readers) > 0 for readers in self.readers]
+        rounds = [file.rounds(told) for file in self.files]
         carried = [sum(len(wires) for _, _, wires in part.carried) for part in self.parts]
         rows = list(zip([part.size for part in self.parts], self.products, rounds, self.messages, carried))
         for number, row in enumerate(rows):
