@@ -107,7 +107,7 @@ HEADINGS = {
     ('outer_io', 'Count'): 'Counts of faults',
     ('outer_io', 'Inlet'): 'Inlets, from which bytes are read',
     ('outer_io', 'Jobs'): 'Jobs beside their caller, as threads are',
-    ('text_tokens', 'RunTokens'): 'Tokens that are words, numbers and symbols',
+    ('text_tokens', 'RunTokens'): 'Tokens that are words, numbers, signs and symbols',
     ('text_tokens', 'FirstFaults'): 'A grammar over tokens, and the first fault',
     ('gate_lines', 'Rows'): 'Lines of a text',
     ('plain_text', 'Words'): 'The words of a text',

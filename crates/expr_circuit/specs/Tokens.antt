@@ -1,5 +1,5 @@
 -- The tokens of a line.
-use Rattle.std.specs.Prelude.{ℕ, Bool, ◌||◌, nat_eq, nat_le, List, length, if◌then◌else◌, codes}
+use Rattle.std.specs.Prelude.{ℕ, Bool, false, ◌||◌, nat_eq, nat_le, List, length, if◌then◌else◌, codes}
 use Rattle.std.specs.Str.{bytes_eq}
 use Rattle.text_tokens.specs.RunTokens.{Language}
 use Rattle.expr_circuit.specs.declared.token.LineToken.{LineToken}
@@ -36,4 +36,12 @@ word_token at run =
 
 -- the language of lines: names, numbers, `input`, `let`, `output` and = + - * ( ) between blanks
 abbrev pub line_language : Language LineToken
-line_language = record { is_blank = is_blank; word = word_token; number = λ at. Number at; symbol = symbol }
+line_language =
+    record {
+      is_blank = is_blank;
+      word = word_token;
+      number = λ at. Number at;
+      is_sign = λ c. false;
+      sign = λ at run. Unknown;
+      symbol = λ at. symbol;
+    }

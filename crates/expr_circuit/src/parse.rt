@@ -7,7 +7,7 @@ use crate::kept_line::Head;
 use crate::limits::MOST_OPEN;
 use crate::line_parser::LineParser;
 use crate::program_line::ProgramLine;
-use crate::token::LineToken;
+use crate::token::LineLanguage;
 use text_tokens::next_token;
 
 /// The line, none where it has no tokens, or the fault of its first token that has one.
@@ -19,7 +19,7 @@ pub(crate) fn parse_line(
 {
     parser.reset();
     let mut from = 0;
-    while let Some(cut) = next_token::<LineToken>(line.text, from) {
+    while let Some(cut) = next_token(LineLanguage, line.text, from) {
         let at = cut.at as u64;
         if !parser.advance(cut.token)? {
             return Err(ExprFault::Syntax {

@@ -22,7 +22,15 @@ word_token at run = if bytes_eq run (codes "of") then Of else Name at
 
 -- the language of formulas: names, numbers, `of` and | & ( ) , between blanks
 abbrev pub formula_language : Language FormulaToken
-formula_language = record { is_blank = is_blank; word = word_token; number = λ at. Number at; symbol = symbol }
+formula_language =
+    record {
+      is_blank = is_blank;
+      word = word_token;
+      number = λ at. Number at;
+      is_sign = λ c. false;
+      sign = λ at run. Unknown;
+      symbol = λ at. symbol;
+    }
 
 -- a name, `&`, `|` and `of` are one element each
 abbrev pub is_element : FormulaToken → Bool

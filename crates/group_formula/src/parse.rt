@@ -6,7 +6,7 @@ use crate::element::FormulaElement;
 use crate::fault::FormulaFault;
 use crate::formula_parser::FormulaParser;
 use crate::limits::{MOST_NODES, MOST_OPEN};
-use crate::token::FormulaToken;
+use crate::token::FormulaLanguage;
 use std::alloc::Global;
 use text_tokens::next_token;
 
@@ -18,7 +18,7 @@ pub(crate) fn parse(alloc: Global, text: &[u8]) -> Result<Vec<FormulaElement>, F
     let mut parser = FormulaParser::new(alloc);
     let mut elements = 0;
     let mut from = 0;
-    while let Some(cut) = next_token::<FormulaToken>(text, from) {
+    while let Some(cut) = next_token(FormulaLanguage, text, from) {
         let at = cut.at as u64;
         match parser.advance(cut.token) {
             Err(_) => return Err(FormulaFault::Memory),

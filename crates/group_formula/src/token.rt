@@ -2,7 +2,7 @@
 ghost use Rattle.std.specs.Prelude.{◌≡◌};
 ghost use Rattle.group_formula.specs.Tokens.{is_element};
 
-use text_tokens::{RunToken, is_blank};
+use text_tokens::{TokenLanguage, is_blank};
 
 /// A token. A name and a number are told by the place in the text where they begin.
 #[derive(Clone, Copy, Debug, PartialEq, Eq)]
@@ -31,16 +31,22 @@ impl FormulaToken {
     }
 }
 
-impl RunToken for FormulaToken {
+/// The language of formulas.
+#[derive(Clone, Copy)]
+pub struct FormulaLanguage;
+
+impl TokenLanguage for FormulaLanguage {
+    type Token = FormulaToken;
+
     ghost use Rattle.group_formula.specs.Tokens.{formula_language};
 
-    ghost language = { formula_language };
+    ghost language = { λ _. formula_language };
 
-    fn is_blank(byte: u8) -> bool {
+    fn is_blank(self, byte: u8) -> bool {
         is_blank(byte)
     }
 
-    fn word(at: usize, word: &[u8]) -> FormulaToken {
+    fn word(self, at: usize, word: &[u8]) -> FormulaToken {
         if word == b"of".as_slice() {
             FormulaToken::Of
         } else {
@@ -48,11 +54,19 @@ impl RunToken for FormulaToken {
         }
     }
 
-    fn number(at: usize) -> FormulaToken {
+    fn number(self, at: usize) -> FormulaToken {
         FormulaToken::Number(at)
     }
 
-    fn symbol(byte: u8) -> FormulaToken {
+    fn is_sign(self, _byte: u8) -> bool {
+        false
+    }
+
+    fn sign(self, _at: usize, _sign: &[u8]) -> FormulaToken {
+        FormulaToken::Unknown
+    }
+
+    fn symbol(self, _at: usize, byte: u8) -> FormulaToken {
         match byte {
             b'|' => FormulaToken::Bar,
             b'&' => FormulaToken::Ampersand,

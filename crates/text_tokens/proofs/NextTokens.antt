@@ -57,13 +57,16 @@ module _ {T : Type 0} (language : Language T) where
       ∙ ap (λ b. tokens_from language (at + cond b (1 + k) 0) language.is_blank (drop (cond b (1 + k) 0) (c ∷ cs))) (sym e)
 
   -- what follows the first token
-  after_first : (c : ℕ) (cs : List ℕ) (at : ℕ) (l d : Bool) → is_ascii_alphabetic c ≡ l → is_ascii_digit c ≡ d
-      → tokens_from language (at + 1) (cond l is_word_byte (cond d is_ascii_digit language.is_blank)) cs
-      ≡ tokens_from language (at + cond l (prefix_len is_word_byte (c ∷ cs)) (cond d (prefix_len is_ascii_digit (c ∷ cs)) 1)) language.is_blank
-      (drop (cond l (prefix_len is_word_byte (c ∷ cs)) (cond d (prefix_len is_ascii_digit (c ∷ cs)) 1)) (c ∷ cs))
-  after_first c cs at true d e f = shifted is_word_byte c cs at (letter_in_word c e)
-  after_first c cs at false true e f = shifted is_ascii_digit c cs at f
-  after_first c cs at false false e f = refl
+  abbrev long : Bool → Bool → Bool → List ℕ → ℕ
+  long l d s xs = cond l (prefix_len is_word_byte xs) (cond d (prefix_len is_ascii_digit xs) (cond s (prefix_len language.is_sign xs) 1))
+
+  after_first : (c : ℕ) (cs : List ℕ) (at : ℕ) (l d s : Bool) → is_ascii_alphabetic c ≡ l → is_ascii_digit c ≡ d → language.is_sign c ≡ s
+      → tokens_from language (at + 1) (cond l is_word_byte (cond d is_ascii_digit (cond s language.is_sign language.is_blank))) cs
+      ≡ tokens_from language (at + long l d s (c ∷ cs)) language.is_blank (drop (long l d s (c ∷ cs)) (c ∷ cs))
+  after_first c cs at true d s e f g = shifted is_word_byte c cs at (letter_in_word c e)
+  after_first c cs at false true s e f g = shifted is_ascii_digit c cs at f
+  after_first c cs at false false true e f g = shifted language.is_sign c cs at g
+  after_first c cs at false false false e f g = refl
 
   no_front : (b : Bool) (k : ℕ) → cond b (1 + k) 0 ≡ 0 → b ≡ false
   no_front true k e = absurd (omega (arith, e))
@@ -71,12 +74,12 @@ module _ {T : Type 0} (language : Language T) where
 
   -- the first token of a text that begins with no blank
   first_is : (xs : List ℕ) (at : ℕ) → 0 < length xs → prefix_len language.is_blank xs ≡ 0
-      → tokens_from language at language.is_blank xs ≡ record { at = at; token = token_at language at xs } ∷ tokens_from language (at + first_length xs) language.is_blank (drop (first_length xs) xs)
+      → tokens_from language at language.is_blank xs ≡ record { at = at; token = token_at language at xs } ∷ tokens_from language (at + first_length language xs) language.is_blank (drop (first_length language xs) xs)
   first_is [] at l e = absurd (omega arith)
   first_is (c ∷ cs) at l e =
       let clear : language.is_blank c ≡ false = no_front (language.is_blank c) (prefix_len language.is_blank cs) e in
       ap (λ b. cond b (tokens_from language (at + 1) language.is_blank cs) (cond b (tokens_from language (at + 1) language.is_blank cs) (record { at = at; token = token_at language at (c ∷ cs) } ∷ tokens_from language (at + 1) (run_begun language c) cs))) clear
-      ∙ ap (λ ts. record { at = at; token = token_at language at (c ∷ cs) } ∷ ts) (after_first c cs at (is_ascii_alphabetic c) (is_ascii_digit c) refl refl)
+      ∙ ap (λ ts. record { at = at; token = token_at language at (c ∷ cs) } ∷ ts) (after_first c cs at (is_ascii_alphabetic c) (is_ascii_digit c) (language.is_sign c) refl refl refl)
 
   -- the blanks before the next token
   blanks_over : (text : List ℕ) (from k : ℕ) → k ≡ prefix_len language.is_blank (drop from text) → tokens_from language from language.is_blank (drop from text) ≡ tokens_from language (from + k) language.is_blank (drop (from + k) text)
@@ -88,7 +91,7 @@ module _ {T : Type 0} (language : Language T) where
 
   pub next_is : (text : List ℕ) (from k : ℕ) → k ≡ prefix_len language.is_blank (drop from text) → from + k < length text
       → tokens_from language from language.is_blank (drop from text)
-      ≡ record { at = from + k; token = token_at language (from + k) (drop (from + k) text) } ∷ tokens_from language (from + k + first_length (drop (from + k) text)) language.is_blank (drop (from + k + first_length (drop (from + k) text)) text)
+      ≡ record { at = from + k; token = token_at language (from + k) (drop (from + k) text) } ∷ tokens_from language (from + k + first_length language (drop (from + k) text)) language.is_blank (drop (from + k + first_length language (drop (from + k) text)) text)
   next_is text from k e l =
       let rest : List ℕ = drop (from + k) text in
       let stops : prefix_len language.is_blank rest ≡ 0 =
@@ -97,4 +100,4 @@ module _ {T : Type 0} (language : Language T) where
       (prefix_len_stops language.is_blank (drop from text) 0 (omega (arith, length-drop from text, e))) in
       blanks_over text from k e
       ∙ first_is rest (from + k) (omega (arith, length-drop (from + k) text)) stops
-      ∙ ap (λ ts. record { at = from + k; token = token_at language (from + k) rest } ∷ tokens_from language (from + k + first_length rest) language.is_blank ts) (drop-drop (first_length rest) (from + k) text)
+      ∙ ap (λ ts. record { at = from + k; token = token_at language (from + k) rest } ∷ tokens_from language (from + k + first_length language rest) language.is_blank ts) (drop-drop (first_length language rest) (from + k) text)

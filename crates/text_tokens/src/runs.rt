@@ -4,14 +4,26 @@ ghost use Rattle.std.specs.List.{prefix_len, take_while};
 ghost use Rattle.std.specs.Char.{is_ascii_digit};
 ghost use Rattle.text_tokens.specs.RunTokens.{is_word_byte};
 
-use crate::run_token::RunToken;
+use crate::token_language::TokenLanguage;
 
 /// How many blanks stand at the front of the text.
-pub(crate) fn blank_length<T: RunToken>(text: &[u8]) -> usize
-    ensures is { result ≡ prefix_len T.language.is_blank text.now }
+pub(crate) fn blank_length<L: TokenLanguage>(language: L, text: &[u8]) -> usize
+    ensures is { result ≡ prefix_len (L.language language).is_blank text.now }
     ensures within { result ≤ length text.now }
 {
-    text.iter().take_while(|byte| T::is_blank(**byte)).count()
+    text.iter()
+        .take_while(|byte| language.is_blank(**byte))
+        .count()
+}
+
+/// How many bytes of signs stand at the front of the text.
+pub(crate) fn sign_length<L: TokenLanguage>(language: L, text: &[u8]) -> usize
+    ensures is { result ≡ prefix_len (L.language language).is_sign text.now }
+    ensures within { result ≤ length text.now }
+{
+    text.iter()
+        .take_while(|byte| language.is_sign(**byte))
+        .count()
 }
 
 /// How many letters, digits and `_` of ASCII stand at the front of the text.
