@@ -5,12 +5,11 @@ use Rattle.std.proofs.lemmas.List.Splits.{slice_split_none, slice_split_at}
 use Rattle.std.proofs.lemmas.List.Elements.{All-from_get_or}
 use Rattle.std.proofs.lemmas.List.{length-take-le}
 use Rattle.expr_circuit.specs.declared.fault.ExprFault.{ExprFault}
-use Rattle.expr_circuit.specs.Tokens.{is_line_end}
-use Rattle.expr_circuit.specs.Faults.{lines}
+use Rattle.expr_circuit.specs.Faults.{is_line_end, lines}
 use Rattle.expr_circuit.specs.Circuits.{Draft}
-use Rattle.expr_circuit.specs.Walks.{line_in, lines_in, lines_after, read_line}
+use Rattle.expr_circuit.specs.Walks.{line_in, lines_in, lines_after}
 use Rattle.list_laws.specs.Answers.{◌>>=◌}
-use Rattle.expr_circuit.proofs.Scans.{blank_found}
+use Rattle.expr_circuit.proofs.LineWalks.{blank_line}
 
 -- no line ends before a place
 abbrev pub NoEnd : List ℕ → ℕ → Type 0
@@ -41,8 +40,8 @@ unfolding lines_in
 first_line q n d text at l e none = ap (lines_in q d n) (lines_cut text at l e none)
 
 empty_line : (q n : ℕ) (d : Draft) → lines_in q d n ([] ∷ []) ≡ Ok d
-unfolding lines_in line_in
-empty_line q n d = ap (λ r. (r >>= read_line q d n []) >>= (λ e. lines_in q e (n + 1) [])) (blank_found [] n refl)
+unfolding lines_in
+empty_line q n d = ap (λ r. r >>= (λ e. lines_in q e (n + 1) [])) (blank_line q d n [] refl)
 
 last_by : (q n : ℕ) (r : Result Draft ExprFault) → r >>= (λ e. lines_in q e (n + 1) []) ≡ r >>= (λ e. lines_in q e (n + 1) ([] ∷ []))
 unfolding lines_in

@@ -5,19 +5,29 @@ use Rattle.expr_circuit.specs.declared.fault.ExprFault.{ExprFault}
 use Rattle.expr_circuit.specs.declared.fault.ExprFault.TheVariants.{NotUtf8, Syntax, UnknownName, BadConstant, TooDeep, TwiceNamed, TooLarge, Memory}
 use Rattle.expr_circuit.specs.declared.names.NamedWires.{NamedWires}
 use Rattle.expr_circuit.specs.declared.draft.Draft.{Draft as DraftKept}
-use Rattle.expr_circuit.specs.declared.kept_line.ExprElement.{ExprElement}
-use Rattle.expr_circuit.specs.declared.kept_line.Head.{Head}
-use Rattle.expr_circuit.specs.Machine.{State}
+use Rattle.line_grammar.specs.declared.dialect.Dialect.TheVariants.{Words}
+use Rattle.line_grammar.specs.declared.element.ExprElement.{ExprElement}
+use Rattle.line_grammar.specs.declared.element.Head.{Head}
+use Rattle.line_grammar.specs.declared.fault.LineFault.{LineFault}
+use Rattle.line_grammar.specs.declared.fault.LineFault.TheVariants as parts
+use Rattle.line_grammar.specs.Laws.{IsRead, Refuses}
+use Rattle.line_grammar.specs.LineFaults.{IsLineFault}
+use Rattle.line_grammar.specs.Machine.{State}
+use Rattle.line_grammar.specs.Scanned.{read_kept}
+use Rattle.line_grammar.proofs.Scans.{read_found, fault_found}
 use Rattle.std.specs.Prelude.{reverse}
 use Rattle.expr_circuit.specs.declared.wire.Wire.{Wire}
 use Rattle.expr_circuit.specs.declared.wire.Wire.TheVariants as wires
 use Rattle.expr_circuit.specs.Programs.{bind}
 use Rattle.expr_circuit.specs.Circuits.{Built, Draft}
-use Rattle.expr_circuit.specs.Walks.{expression_in, bind_in, input_in, define_in, output_in, with_gates, read_in, read_line, parse_in, line_in}
+use Rattle.expr_circuit.specs.Walks.{expression_in, bind_in, input_in, define_in, output_in, with_gates, read_in, read_line, on_line, line_in}
 use Rattle.list_laws.specs.Answers.{◌>>=◌}
-use Rattle.expr_circuit.specs.Kept.{Kept, kept, Fails, Shows, read_kept, OrMemory, Expresses}
+use Rattle.expr_circuit.specs.Kept.{Kept, kept, Fails, OrMemory, Expresses}
 use Rattle.expr_circuit.specs.Named.{AreNames, Binds}
 use Rattle.expr_circuit.specs.Keeps.{Becomes}
+use Rattle.std.specs.Prelude.{MatchResult}
+use Rattle.expr_circuit.specs.Faults.{of_line}
+use Rattle.expr_circuit.proofs.LineWalks.{line_read}
 use Rattle.expr_circuit.proofs.GateSteps.{fails_on, fails_then, memory_fails}
 
 twice_fails : (d : Draft) (n : ℕ) (x : List ℕ) (w : Wire) (f : ExprFault) → is_some (d.of x) ≡ true → f ≡ TwiceNamed n → bind_in d n x w ≡ Err f
@@ -97,22 +107,29 @@ output_fails q d n line elements gates (Ok w) f e h = cc
 output_fails q d n line elements gates (Err g) f e h =
     subst (λ k. Fails k (output_in q d n line elements)) (let s : g ≡ f = cc in s) (fails_then g (expression_in q d n line elements) (λ (c : Built). Ok (record d { gates = c.gates; outputs = d.outputs ++ (c.wire ∷ []) })) h)
 
+-- what the grammar answers
+abbrev pub IsParsed : List ℕ → State → Result (Option Head) LineFault → Type 0
+IsParsed text s r = MatchResult r (λ head. IsRead Words text (read_kept s head)) (Refuses Words text)
+
 -- a line that was read
-pub line_some : (q : ℕ) (d : Draft) (n : ℕ) (text : List ℕ) (s : State) (elements : List ExprElement) (r : Result (Option Head) ExprFault) (head : Head) → r ≡ Ok (Some head) → elements ≡ reverse s.out → Shows (read_kept s) r (parse_in n text) → line_in q d n text ≡ read_in q d n text head elements
-unfolding line_in
-line_some q d n text s elements (Err f) head e is h = cc
-line_some q d n text s elements (Ok o) head e is h =
-    ap (λ r. r >>= read_line q d n text) (h ∙ ap (λ x. Ok (read_kept s x)) (let same : o ≡ Some head = cc in same)) ∙ ap (read_in q d n text head) (sym is)
+pub line_some : (q : ℕ) (d : Draft) (n : ℕ) (text : List ℕ) (s : State) (elements : List ExprElement) (r : Result (Option Head) LineFault) (head : Head) → r ≡ Ok (Some head) → elements ≡ reverse s.out → IsParsed text s r → line_in q d n text ≡ read_in q d n text head elements
+line_some q d n text s elements r head e is h =
+    line_read q d n text (read_kept s (Some head)) (read_found Words text (read_kept s (Some head)) (subst (IsParsed text s) e h)) ∙ ap (read_in q d n text head) (sym is)
 
-pub line_none : (q : ℕ) (d : Draft) (n : ℕ) (text : List ℕ) (s : State) (r : Result (Option Head) ExprFault) → r ≡ Ok None → Shows (read_kept s) r (parse_in n text) → line_in q d n text ≡ Ok d
-unfolding line_in
-line_none q d n text s (Err f) e h = cc
-line_none q d n text s (Ok o) e h = ap (λ r. r >>= read_line q d n text) (h ∙ ap (λ x. Ok (read_kept s x)) (let same : o ≡ None = cc in same))
+pub line_none : (q : ℕ) (d : Draft) (n : ℕ) (text : List ℕ) (s : State) (r : Result (Option Head) LineFault) → r ≡ Ok None → IsParsed text s r → line_in q d n text ≡ Ok d
+line_none q d n text s r e h = line_read q d n text None (read_found Words text None (subst (IsParsed text s) e h))
 
-pub line_stops : (q : ℕ) (d : Draft) (n : ℕ) (text : List ℕ) (s : State) (r : Result (Option Head) ExprFault) (f : ExprFault) → r ≡ Err f → Shows (read_kept s) r (parse_in n text) → Fails f (line_in q d n text)
+refused : (q : ℕ) (d : Draft) (n : ℕ) (text : List ℕ) (f : LineFault) → IsLineFault Words text f → line_in q d n text ≡ Err (of_line n f)
 unfolding line_in
-line_stops q d n text s (Ok o) f e h = cc
-line_stops q d n text s (Err g) f e h = subst (λ k. Fails k (line_in q d n text)) (let same : g ≡ f = cc in same) (fails_then g (parse_in n text) (read_line q d n text) h)
+refused q d n text f h = ap (λ r. on_line n r >>= read_line q d n text) (fault_found Words text f h)
+
+stops : (q : ℕ) (d : Draft) (n : ℕ) (text : List ℕ) (f : LineFault) → Refuses Words text f → Fails (of_line n f) (line_in q d n text)
+stops q d n text parts.Memory h = tt
+stops q d n text (parts.Syntax at) h = refused q d n text (parts.Syntax at) h
+stops q d n text (parts.TooDeep at) h = refused q d n text (parts.TooDeep at) h
+
+pub line_stops : (q : ℕ) (d : Draft) (n : ℕ) (text : List ℕ) (s : State) (r : Result (Option Head) LineFault) (f : LineFault) (told : ExprFault) → told ≡ of_line n f → r ≡ Err f → IsParsed text s r → Fails told (line_in q d n text)
+line_stops q d n text s r f told is e h = subst (λ (g : ExprFault). Fails g (line_in q d n text)) (sym is) (stops q d n text f (subst (IsParsed text s) e h))
 
 -- the same, for a draft that is wanted by another name
 pub becomes_same : {A : Type 0} (r : Result A ExprFault) (new : DraftKept) (x y : Result Draft ExprFault) → y ≡ x → Becomes r new x → Becomes r new y

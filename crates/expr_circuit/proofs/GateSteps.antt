@@ -6,8 +6,8 @@ use Rattle.list_laws.proofs.Tests.{or_true}
 use Rattle.circuit_model.proofs.SetWires.{lt_or_not}
 use Rattle.expr_circuit.specs.declared.fault.ExprFault.{ExprFault}
 use Rattle.expr_circuit.specs.declared.fault.ExprFault.TheVariants.{NotUtf8, Syntax, UnknownName, BadConstant, TooDeep, TwiceNamed, TooLarge, Memory}
-use Rattle.expr_circuit.specs.declared.kept_line.ExprElement.{ExprElement}
-use Rattle.expr_circuit.specs.declared.kept_line.ExprElement.TheVariants.{Number}
+use Rattle.line_grammar.specs.declared.element.ExprElement.{ExprElement}
+use Rattle.line_grammar.specs.declared.element.ExprElement.TheVariants.{Number}
 use Rattle.circuit_model.specs.declared.gate.Operation.TheVariants.{Eq}
 use Rattle.expr_circuit.specs.Programs.{number_at}
 use Rattle.expr_circuit.specs.declared.wire.Wire.{Wire}

@@ -3,13 +3,9 @@ pub mod Wires
 pub mod Netlists
 pub mod PlainValues
 pub mod ValidPrograms
-pub mod MachineRuns
-pub mod Partials
-pub mod Scans
 pub mod LineWalks
-pub mod OneLine
+pub mod Elements
 pub mod OneAnswer
-pub mod ParseSteps
 pub mod RingNumbers
 pub mod AssemblySteps
 pub mod GateSteps

@@ -1,13 +1,17 @@
 -- Each text is one program or has one first fault.
-use Rattle.std.proofs.Common.{◌≡◌, ℕ, ◌+◌, ◌^◌, ◌<◌, ◌⊎◌, inl, inr, Bool, true, false, cond, nat_lt, List, [], ◌∷◌, length, Result, Ok, Err, refl, sym, ◌∙◌, ap, ap₂, subst}
+use Rattle.std.proofs.Common.{◌≡◌, ℕ, ◌+◌, ◌^◌, ◌<◌, ◌⊎◌, inl, inr, Bool, true, false, cond, nat_lt, List, [], ◌∷◌, length, Some, Result, Ok, Err, refl, sym, ◌∙◌, ap, ap₂, subst}
 use Rattle.std.proofs.lemmas.Bool.{lt-ltb, ltb-true}
 use Rattle.std.specs.Str.{IsUtf8}
 use Rattle.std.specs.Str.Lossy.{utf8_valid_len}
 use Rattle.text_tokens.specs.RunTokens.{bare}
 use Rattle.expr_circuit.specs.declared.fault.ExprFault.{ExprFault}
 use Rattle.expr_circuit.specs.declared.fault.ExprFault.TheVariants.{NotUtf8, TooLarge}
-use Rattle.expr_circuit.specs.Grammar.{LineForm, spell_line}
-use Rattle.expr_circuit.specs.Programs.{Statement, statement}
+use Rattle.line_grammar.specs.declared.dialect.Dialect.TheVariants.{Words}
+use Rattle.line_grammar.specs.Grammar.{LineForm, spell_line}
+use Rattle.line_grammar.specs.Grammar.LineForm.{input_line, wide_input_line, let_line, output_line}
+use Rattle.line_grammar.specs.Postfix.{read_of}
+use Rattle.line_grammar.proofs.Scans.{one_reading}
+use Rattle.expr_circuit.specs.Programs.{Statement}
 use Rattle.expr_circuit.specs.Faults.{Says, IsBlank, AreLines, knows, none_known, lines}
 use Rattle.expr_circuit.specs.Circuits.{Draft, no_lines, draft_of, is_large, circuit}
 use Rattle.circuit_model.specs.Netlists.{Netlist}
@@ -18,7 +22,7 @@ use Rattle.expr_circuit.specs.Laws.{IsProgram, IsFault, IsCircuitOf, HasOneAnswe
 use Rattle.expr_circuit.specs.Laws.IsFault.{not_utf8, in_line, too_large}
 use Rattle.expr_circuit.proofs.Wires.{Tells}
 use Rattle.expr_circuit.proofs.LineWalks.{Done, done, lines_found, faults_found}
-use Rattle.expr_circuit.proofs.OneLine.{one_line}
+use Rattle.expr_circuit.proofs.Elements.{says, says_is}
 
 -- what stands in a text, by what the compiler answers
 abbrev pub Answered : ℕ → List ℕ → Result Netlist ExprFault → Type 0
@@ -78,15 +82,19 @@ fault_found bits text f (too_large e u p said large) =
 
 -- a line says one statement
 one_said : (q : ℕ) (known : List ℕ → Bool) (line : List ℕ) (n : ℕ) (s t : Statement) → Says q known line n s → Says q known line n t → s ≡ t
-one_said q known line n s t a b = a.meant ∙ ap (statement line) (one_line a.form b.form (a.parsed.spelled ∙ sym b.parsed.spelled)) ∙ sym b.meant
+one_said q known line n s t a b =
+    let e = (one_reading Words line).one_line (Some (read_of a.form.form)) (Some (read_of b.form.form)) (a.form, a.parsed, refl) (b.form, b.parsed, refl) in
+    let same : read_of a.form.form ≡ read_of b.form.form = cc in
+    a.meant ∙ sym (says_is line a.form.form) ∙ ap (says line) same ∙ says_is line b.form.form ∙ sym b.meant
 
 spelled_some : (l : LineForm) → spell_line l ≡ [] → ⊥
-spelled_some (LineForm.input_line x) e = cc
-spelled_some (LineForm.let_line x y) e = cc
-spelled_some (LineForm.output_line y) e = cc
+spelled_some (input_line x) e = cc
+spelled_some (wide_input_line x w) e = cc
+spelled_some (let_line x y) e = cc
+spelled_some (output_line y) e = cc
 
 said_not_blank : (q : ℕ) (known : List ℕ → Bool) (line : List ℕ) (n : ℕ) (s : Statement) → Says q known line n s → IsBlank line → ⊥
-said_not_blank q known line n s says blank = spelled_some says.form (says.parsed.spelled ∙ ap bare blank)
+said_not_blank q known line n s said blank = spelled_some said.form.form (said.parsed ∙ ap bare blank)
 
 one_program : (q : ℕ) (known : List ℕ → Bool) (n : ℕ) (ls : List (List ℕ)) (p r : List Statement) → AreLines q known n ls p → AreLines q known n ls r → p ≡ r
 one_program q known n [] p r a b = a ∙ sym b

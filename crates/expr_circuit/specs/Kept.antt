@@ -1,39 +1,23 @@
--- How the parser and the draft are kept, and what their steps answer.
-use Rattle.std.specs.Prelude.{◌≡◌, ℕ, ◌+◌, ◌<◌, ◌^◌, Bool, true, false, List, ◌∷◌, length, take, reverse, Option, Some, None, Result, Ok, Err}
+-- How a draft is kept, and what its steps answer.
+use Rattle.std.specs.Prelude.{◌≡◌, ℕ, ◌+◌, ◌<◌, ◌^◌, false, List, ◌∷◌, length, take, Result, Ok, Err}
 use Rattle.expr_circuit.specs.declared.fault.ExprFault.{ExprFault}
 use Rattle.expr_circuit.specs.declared.fault.ExprFault.TheVariants.{Memory}
-use Rattle.expr_circuit.specs.declared.kept_line.Head.{Head}
 use Rattle.expr_circuit.specs.declared.wire.Wire.{Wire}
 use Rattle.expr_circuit.specs.declared.wire.DraftGate.{DraftGate}
 use Rattle.circuit_model.specs.Netlists.{IsCircuit}
 use Rattle.expr_circuit.specs.Circuits.{Draft, Built, number_of, netlist, is_large}
-use Rattle.expr_circuit.specs.Machine.{State}
-use Rattle.expr_circuit.specs.Walks.{Read, Walk}
+use Rattle.expr_circuit.specs.Walks.{Walk}
 use Rattle.job_limits.specs.declared.limits.TheConstants.{MOST_GATES, MOST_VALUES}
-
--- the parser went on to the next state, or tells that there is none
-abbrev pub Advances : Option State → Bool → State → Type 0
-Advances None goes_on new = goes_on ≡ false
-Advances (Some next) goes_on new = (goes_on ≡ true) × (new ≡ next)
-
--- a line as it is kept: what it begins with, and what the parser has
-abbrev pub read_kept : State → Option Head → Option Read
-read_kept s None = None
-read_kept s (Some head) = Some (record { head = head; elements = reverse s.out })
 
 -- the fault that is wanted, unless memory ran out
 abbrev pub Fails : {B : Type 0} → ExprFault → Result B ExprFault → Type 0
 Fails Memory wanted = Unit {0}
 Fails fault wanted = wanted ≡ Err fault
 
--- the answer that is wanted, as it is seen, unless memory ran out
-abbrev pub Shows : {A B : Type 0} → (A → B) → Result A ExprFault → Result B ExprFault → Type 0
-Shows view (Ok a) wanted = wanted ≡ Ok (view a)
-Shows view (Err fault) wanted = Fails fault wanted
-
--- that answer itself
+-- the answer that is wanted, unless memory ran out
 abbrev pub Gives : {A : Type 0} → Result A ExprFault → Result A ExprFault → Type 0
-Gives result wanted = Shows (λ a. a) result wanted
+Gives (Ok a) wanted = wanted ≡ Ok a
+Gives (Err fault) wanted = Fails fault wanted
 
 -- the wires of gate number g, behind `inputs` inputs, fit in 32 bits
 pub record IsNarrow (inputs g : ℕ) (s : DraftGate) : Type 0 where

@@ -1,9 +1,6 @@
-pub mod Tokens
-pub mod Grammar
 pub mod Programs
 pub mod Faults
 pub mod Circuits
-pub mod Machine
 pub mod Walks
 pub mod Kept
 pub mod Named

@@ -1,74 +1,28 @@
--- What the compiler answers, line by line and token by token.
-use Rattle.std.specs.Prelude.{ℕ, ◌+◌, ◌^◌, nat_lt, Bool, true, false, List, [], ◌∷◌, ◌++◌, length, drop, reverse, Option, Some, None, Result, Ok, Err, is_some, if◌then◌else◌}
+-- What the compiler answers, line by line and element by element.
+use Rattle.std.specs.Prelude.{ℕ, ◌+◌, ◌^◌, nat_lt, List, [], ◌∷◌, ◌++◌, length, drop, Option, Some, None, Result, Ok, Err, is_some, if◌then◌else◌}
 use Rattle.std.specs.Str.Lossy.{utf8_valid_len}
 use Rattle.circuit_model.specs.declared.gate.Operation.{Operation}
 use Rattle.circuit_model.specs.declared.gate.Operation.TheVariants.{Add, Sub, Neg, Mul, Eq}
-use Rattle.text_tokens.specs.RunTokens.{Placed, tokens}
+use Rattle.circuit_model.specs.Netlists.{Netlist}
+use Rattle.list_laws.specs.Answers.{◌>>=◌}
+use Rattle.line_grammar.specs.declared.dialect.Dialect.TheVariants.{Words}
+use Rattle.line_grammar.specs.declared.fault.LineFault.{LineFault}
+use Rattle.line_grammar.specs.declared.element.ExprElement.{ExprElement}
+use Rattle.line_grammar.specs.declared.element.ExprElement.TheVariants as elements
+use Rattle.line_grammar.specs.declared.element.Head.{Head}
+use Rattle.line_grammar.specs.declared.element.Head.TheVariants as heads
+use Rattle.line_grammar.specs.declared.operator.Infix.{Infix}
+use Rattle.line_grammar.specs.declared.operator.Infix.TheVariants as infixes
+use Rattle.line_grammar.specs.Machine.{Read}
+use Rattle.line_grammar.specs.Scanned.{parse_in}
 use Rattle.expr_circuit.specs.declared.fault.ExprFault.{ExprFault}
-use Rattle.expr_circuit.specs.declared.fault.ExprFault.TheVariants.{NotUtf8, Syntax, UnknownName, BadConstant, TooDeep, TwiceNamed, TooLarge}
-use Rattle.expr_circuit.specs.declared.kept_line.ExprElement.{ExprElement}
-use Rattle.expr_circuit.specs.declared.kept_line.ExprElement.TheVariants as elements
-use Rattle.expr_circuit.specs.declared.kept_line.Head.{Head}
-use Rattle.expr_circuit.specs.declared.kept_line.Head.TheVariants as heads
-use Rattle.expr_circuit.specs.declared.line_parser.LineMode.{LineMode}
-use Rattle.expr_circuit.specs.declared.line_parser.LineMode.TheVariants as modes
-use Rattle.expr_circuit.specs.declared.line_parser.Level.{Level}
+use Rattle.expr_circuit.specs.declared.fault.ExprFault.TheVariants.{NotUtf8, UnknownName, BadConstant, TwiceNamed, TooLarge}
 use Rattle.expr_circuit.specs.declared.wire.Wire.{Wire}
 use Rattle.expr_circuit.specs.declared.wire.Wire.TheVariants as wires
 use Rattle.expr_circuit.specs.declared.wire.DraftGate.{DraftGate}
-use Rattle.expr_circuit.specs.declared.token.LineToken.{LineToken}
-use Rattle.expr_circuit.specs.Tokens.{line_language}
 use Rattle.expr_circuit.specs.Programs.{bind, name_at, number_at}
-use Rattle.expr_circuit.specs.Faults.{lines}
+use Rattle.expr_circuit.specs.Faults.{lines, of_line}
 use Rattle.expr_circuit.specs.Circuits.{Built, Draft, add, no_wire, no_lines, netlist, is_large}
-use Rattle.circuit_model.specs.Netlists.{Netlist}
-use Rattle.list_laws.specs.Answers.{◌>>=◌}
-use Rattle.expr_circuit.specs.Machine.{State, start, step, depth, with_sum}
-use Rattle.expr_circuit.specs.declared.limits.TheConstants.{MOST_OPEN}
-
--- the state, or the fault of the token at this place
-abbrev pub stepped : ℕ → ℕ → Option State → Result State ExprFault
-stepped n at None = Err (Syntax n at)
-stepped n at (Some s) = if nat_lt MOST_OPEN (depth s) then Err (TooDeep n at) else Ok s
-
--- the state after tokens of line n, or the first fault
-abbrev pub scan : ℕ → State → List (Placed LineToken) → Result State ExprFault
-scan n s [] = Ok s
-scan n s (t ∷ ts) = stepped n t.at (step s t.token) >>= (λ next. scan n next ts)
-
--- a line that was read: what it begins with, and its expression in postfix order
-pub record Read : Type 0 where
-  pub head : Head
-  pub elements : List ExprElement
-
-abbrev pub closed : Head → List Level → List ExprElement → Option Read
-closed head [] out = Some (record { head = head; elements = reverse out })
-closed head (level ∷ frames) out = None
-
--- the line, if it may end here
-abbrev pub finish_in : LineMode → State → Option Read
-finish_in (modes.Ended at) s = Some (record { head = heads.Input at; elements = reverse s.out })
-finish_in (modes.Have head) s = closed head s.frames (with_sum s.level.sum s.out)
-finish_in _ s = None
-
-abbrev pub finish : State → Option Read
-finish s = finish_in s.mode s
-
--- the line, if there is one, or else the fault at its end
-abbrev pub or_end : ℕ → ℕ → Option Read → Result (Option Read) ExprFault
-or_end n at None = Err (Syntax n at)
-or_end n at (Some read) = Ok (Some read)
-
-abbrev pub is_first : LineMode → Bool
-is_first modes.First = true
-is_first _ = false
-
-abbrev pub line_end : ℕ → ℕ → State → Result (Option Read) ExprFault
-line_end n at s = if is_first s.mode then Ok None else or_end n at (finish s)
-
--- line n, none where it has no tokens, or the first fault of its tokens
-unfoldable pub parse_in : ℕ → List ℕ → Result (Option Read) ExprFault
-parse_in n line = scan n start (tokens line_language line) >>= line_end n (length line)
 
 -- the gates so far, and the wires that wait, the last one first
 pub record Walk : Type 0 where
@@ -90,17 +44,22 @@ named_wire n at (Some w) = Ok w
 abbrev pub operator : Walk → Operation → Walk
 operator w o = put (add w.gates o (top (drop 1 w.wires)) (top w.wires) 0) (drop 2 w.wires)
 
--- what an element makes of the wires before it
+-- the operation of an operator between two operands: words have three alone
+abbrev pub operation_of : Infix → Operation
+operation_of infixes.Add = Add
+operation_of infixes.Subtract = Sub
+operation_of _ = Mul
+
+-- what an element makes of the wires before it: one that words don't have leaves its last operand
 abbrev pub element_in : ℕ → (List ℕ → Option Wire) → ℕ → List ℕ → ExprElement → Walk → Result Walk ExprFault
 element_in q of n line (elements.Name at) w =
     named_wire n at (of (name_at line at)) >>= (λ wire. Ok (put (record { gates = w.gates; wire = wire }) w.wires))
 element_in q of n line (elements.Number at) w =
     if nat_lt (number_at line at) q then Ok (put (add w.gates Eq no_wire no_wire (number_at line at)) w.wires)
     else Err (BadConstant n at)
-element_in q of n line elements.Negate w = Ok (put (add w.gates Neg (top w.wires) no_wire 0) (drop 1 w.wires))
-element_in q of n line elements.Add w = Ok (operator w Add)
-element_in q of n line elements.Subtract w = Ok (operator w Sub)
-element_in q of n line elements.Multiply w = Ok (operator w Mul)
+element_in q of n line (elements.Prefix x) w = Ok (put (add w.gates Neg (top w.wires) no_wire 0) (drop 1 w.wires))
+element_in q of n line (elements.Infix o at) w = Ok (operator w (operation_of o))
+element_in q of n line _ w = Ok (put (record { gates = w.gates; wire = top w.wires }) (drop 1 w.wires))
 
 abbrev pub elements_in : ℕ → (List ℕ → Option Wire) → ℕ → List ℕ → List ExprElement → Walk → Result Walk ExprFault
 elements_in q of n line [] w = Ok w
@@ -136,6 +95,7 @@ output_in q d n line elements =
 -- with one line more
 abbrev pub read_in : ℕ → Draft → ℕ → List ℕ → Head → List ExprElement → Result Draft ExprFault
 read_in q d n line (heads.Input at) elements = input_in d n (name_at line at)
+read_in q d n line (heads.WideInput at width) elements = input_in d n (name_at line at)
 read_in q d n line (heads.Let at) elements = define_in q d n line (name_at line at) elements
 read_in q d n line heads.Output elements = output_in q d n line elements
 
@@ -143,9 +103,14 @@ abbrev pub read_line : ℕ → Draft → ℕ → List ℕ → Option Read → Re
 read_line q d n line None = Ok d
 read_line q d n line (Some read) = read_in q d n line read.head read.elements
 
+-- what the grammar answers for line n
+abbrev pub on_line : {A : Type 0} → ℕ → Result A LineFault → Result A ExprFault
+on_line n (Ok a) = Ok a
+on_line n (Err fault) = Err (of_line n fault)
+
 -- with line n, or its first fault
 unfoldable pub line_in : ℕ → Draft → ℕ → List ℕ → Result Draft ExprFault
-line_in q d n line = parse_in n line >>= read_line q d n line
+line_in q d n line = on_line n (parse_in Words line) >>= read_line q d n line
 
 -- with the lines from line n on, or the first fault
 unfoldable pub lines_in : ℕ → Draft → ℕ → List (List ℕ) → Result Draft ExprFault

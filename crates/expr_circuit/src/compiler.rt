@@ -10,11 +10,11 @@ ghost use Rattle.expr_circuit.specs.Laws.{IsCircuitOf, IsCompiled, Refuses};
 
 use crate::draft::Draft;
 use crate::fault::ExprFault;
-use crate::line_parser::LineParser;
 use crate::program_line::ProgramLine;
 use crate::wire::Pending;
 use circuit_file::write;
 use circuit_model::Circuit;
+use line_grammar::LineParser;
 use mpc_ring::Ring;
 use std::alloc::Global;
 

@@ -7,13 +7,11 @@ ghost use Rattle.expr_circuit.specs.Keeps.{Keeps, Becomes};
 
 use crate::fault::ExprFault;
 use crate::gates::Gates;
-use crate::kept_line::{ExprElement, Head};
-use crate::line_parser::LineParser;
 use crate::names::NamedWires;
-use crate::parse::parse_line;
 use crate::program_line::ProgramLine;
 use crate::wire::{Pending, Wire};
 use circuit_model::Circuit;
+use line_grammar::{Dialect, ExprElement, Head, LineParser, parse_line};
 use mpc_ring::Ring;
 use std::alloc::Global;
 use text_tokens::word_bytes;
@@ -94,6 +92,7 @@ impl<'a> Draft<'a> {
     {
         match head {
             Head::Input(at) => self.input(line.number, word_bytes(line.text, at)),
+            Head::WideInput(at, _) => self.input(line.number, word_bytes(line.text, at)),
             Head::Let(at) => {
                 let name = word_bytes(line.text, at);
                 self.define(line, name, elements, wires)
@@ -112,10 +111,10 @@ impl<'a> Draft<'a> {
         ensures { (d : circuits.Draft) → Keeps self.old d → Becomes result self.new
             (line_in (2 ^ line.now.ring) d line.now.number line.now.text.now) }
     {
-        match parse_line(parser, line) {
+        match parse_line(parser, Dialect::Words, line.text) {
             Ok(Some(head)) => self.read(line, head, parser.elements(), wires),
             Ok(None) => Ok(()),
-            Err(fault) => Err(fault),
+            Err(fault) => Err(ExprFault::of_line(line.number, fault)),
         }
     }
 

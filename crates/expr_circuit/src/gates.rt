@@ -2,18 +2,18 @@
 ghost use Rattle.std.specs.Prelude.{◌≡◌, ◌+◌, ◌^◌, ◌∷◌, ◌++◌, [], nat_lt, drop, OnOk, MatchResult, if◌then◌else◌};
 ghost use Rattle.expr_circuit.specs.declared.fault.ExprFault.TheVariants.{Memory};
 ghost use Rattle.expr_circuit.specs.Circuits.{Draft, add, no_wire, no_lines};
-ghost use Rattle.expr_circuit.specs.Walks.{top, element_in, expression_in, netlist_in};
+ghost use Rattle.expr_circuit.specs.Walks.{top, operation_of, element_in, expression_in, netlist_in};
 ghost use Rattle.expr_circuit.specs.Named.{AreNames};
 ghost use Rattle.expr_circuit.specs.Kept.{kept, OrMemory, Builds, Wires, Moves, Expresses, Gives, IsSound};
 
 use crate::assembly::{assemble, push_copies};
 use crate::fault::ExprFault;
-use crate::kept_line::ExprElement;
 use crate::names::{NamedWires, number_at};
 use crate::program_line::ProgramLine;
 use crate::wire::{DraftGate, Pending, Wire};
 use circuit_model::{Circuit, Operation};
 use job_limits::{MOST_GATES, MOST_VALUES};
+use line_grammar::{ExprElement, Infix};
 use mpc_ring::Ring;
 use std::alloc::{AllocError, Global};
 use std::marker::Model;
@@ -50,6 +50,17 @@ fn next(count: u64) -> Result<u64, ExprFault>
     match count.checked_add(1) {
         Some(more) => Ok(more),
         None => Err(ExprFault::Memory),
+    }
+}
+
+/// The operation of an operator between two operands. Words have three alone.
+fn operation_of(operator: Infix) -> Operation
+    ensures { result ≡ operation_of operator }
+{
+    match operator {
+        Infix::Add => Operation::Add,
+        Infix::Subtract => Operation::Sub,
+        _ => Operation::Mul,
     }
 }
 
@@ -175,10 +186,9 @@ impl Gates {
                     at: at as u64,
                 }),
             },
-            ExprElement::Negate => self.negate(wires),
-            ExprElement::Add => self.operator(Operation::Add, wires),
-            ExprElement::Subtract => self.operator(Operation::Sub, wires),
-            ExprElement::Multiply => self.operator(Operation::Mul, wires),
+            ExprElement::Prefix(_) => self.negate(wires),
+            ExprElement::Infix(infix, _) => self.operator(operation_of(infix), wires),
+            ExprElement::Pair(_) | ExprElement::Choose => Ok(wires.pop()),
         }
     }
 

@@ -4,7 +4,7 @@ use Rattle.expr_circuit.proofs.DraftSteps.{line_some, line_none, line_stops, bec
 use Rattle.expr_circuit.proofs.draft.Draft.line.Goals as goal
 
 pub returns-in-Err : goal.returns-in-Err
-returns-in-Err c = λ d keeps. line_stops (2 ^ c.args.line.now.ring) d c.args.line.now.number c.args.line.now.text.now c.parse_line.new.parser c.parse_line.result c.in-Err.fault c.in-Err.is c.parse_line.ensures
+returns-in-Err c = λ d keeps. line_stops (2 ^ c.args.line.now.ring) d c.args.line.now.number c.args.line.now.text.now c.parse_line.new.parser c.parse_line.result c.in-Err.fault c.of_line.result c.of_line.ensures c.in-Err.is c.parse_line.ensures
 
 pub returns-in-Ok-Some : goal.returns-in-Ok-Some
 returns-in-Ok-Some c = λ d keeps.
