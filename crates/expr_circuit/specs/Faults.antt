@@ -31,7 +31,8 @@ bad_name known line n at = if known (name_at line at) then None else Some (Unkno
 abbrev pub bad_number : ℕ → List ℕ → ℕ → ℕ → Option ExprFault
 bad_number q line n at = if nat_lt (number_at line at) q then None else Some (BadConstant n at)
 
--- the first name or number of an expression that has a fault, in the order of the line, which is line n
+-- the first name or number of an expression that has a fault, in the order of the line, which is line n: words have no
+-- other expressions than these
 abbrev pub bad : ℕ → (List ℕ → Bool) → List ℕ → ℕ → Expr → Option ExprFault
 bad q known line n (number at) = bad_number q line n at
 bad q known line n (named at) = bad_name known line n at

@@ -1,4 +1,4 @@
-//! The languages of lines.
+//! The languages of lines. An operator more is a row here, and its level.
 ghost use Rattle.std.specs.Prelude.{◌≡◌};
 ghost use Rattle.line_grammar.specs.Dialects as dialects;
 
@@ -7,8 +7,7 @@ use crate::operator::{Infix, Prefix};
 use crate::token::{LineToken, operator_word, plain_word, sign_of, symbol_of};
 use text_tokens::TokenLanguage;
 
-/// A language: that of words modulo a power of 2, or that of whole numbers. What an operator more needs is a row here
-/// and its level.
+/// A language: that of words modulo a power of 2, or that of whole numbers.
 #[derive(Clone, Copy, Debug, PartialEq, Eq)]
 pub enum Dialect {
     Words,
