@@ -7,10 +7,12 @@ use crate::operator::{Infix, Prefix};
 use crate::token::{LineToken, operator_word, plain_word, sign_of, symbol_of};
 use text_tokens::TokenLanguage;
 
-/// A language: that of words modulo a power of 2, or that of whole numbers.
+/// A language of lines.
 #[derive(Clone, Copy, Debug, PartialEq, Eq)]
 pub enum Dialect {
+    /// Words modulo a power of 2.
     Words,
+    /// Whole numbers.
     Numbers,
 }
 
