@@ -1,0 +1,4 @@
+pub mod Carrying
+pub mod Scanning
+pub mod Multiplying
+pub mod Dividing
