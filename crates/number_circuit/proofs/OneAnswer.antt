@@ -19,7 +19,7 @@ use Rattle.number_circuit.specs.Faults.FaultOfLine.{token_fault, name_fault}
 use Rattle.number_circuit.specs.Laws.{IsProgram, IsFault, HasOneAnswer}
 use Rattle.number_circuit.specs.Laws.IsFault.{not_utf8, in_line, too_large}
 use Rattle.number_circuit.proofs.Elements.{said, said_is, flawed, flawed_is}
-use Rattle.number_circuit.proofs.WholeTexts.{text_grounded, text_related}
+use Rattle.circuit_file.proofs.FileLaws.{text_grounded, text_related}
 
 module _ (known : Bounds) (line : List ℕ) (n : ℕ) where
   reading : HasOneReading Numbers line
@@ -73,11 +73,11 @@ module _ (known : Bounds) (line : List ℕ) (n : ℕ) where
   not_said s f a (token_fault b e h) = reading.not_both (Some (read_of a.form.form)) b (read_so a.form a.parsed) h
   not_said s f a (name_fault b h e) = let no : None ≡ Some f = sym a.good ∙ same_bad a.form b a.parsed h ∙ e in cc
 
-  not_blank_fault : (f : NumberFault) → IsBlank line → FaultOfLine known line n f → ⊥
+  pub not_blank_fault : (f : NumberFault) → IsBlank line → FaultOfLine known line n f → ⊥
   not_blank_fault f blank (token_fault b e h) = reading.not_both None b blank h
   not_blank_fault f blank (name_fault b h e) = no_line b h blank
 
-  not_blank : (s : Statement) → IsBlank line → Says known line n s → ⊥
+  pub not_blank : (s : Statement) → IsBlank line → Says known line n s → ⊥
   not_blank s blank a = no_line a.form a.parsed blank
 
 -- what the lines are, from line n on

@@ -29,7 +29,7 @@ get_last : (xs : List DraftGate) (g d : DraftGate) → get_or (xs ++ (g ∷ []))
 get_last [] g d = refl
 get_last (x ∷ xs) g d = get_last xs g d
 
-set_front : (R : Wire → DraftGate → Type 0) (xs ys zs : List DraftGate) → zs ≡ xs ++ ys → AreSet R zs → AreSet R xs
+pub set_front : (R : Wire → DraftGate → Type 0) (xs ys zs : List DraftGate) → zs ≡ xs ++ ys → AreSet R zs → AreSet R xs
 set_front R xs ys zs e h = record {
   of_gate = λ t l. subst (R (wires.Gate t)) (ap (λ gs. get_or gs t no_gate) e ∙ get_front xs ys t no_gate l) (h.of_gate t (let k : t < length zs = omega (arith, ap length e, length-append xs ys, l) in k));
 }

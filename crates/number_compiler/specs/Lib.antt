@@ -1,0 +1,11 @@
+pub mod Widths
+pub mod Terms
+pub mod Seen
+pub mod Circuits
+pub mod Elements
+pub mod Named
+pub mod Moves
+pub mod Progress
+pub mod Keeps
+pub mod Narrow
+pub mod Laws
