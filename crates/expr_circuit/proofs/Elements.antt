@@ -9,7 +9,8 @@ use Rattle.line_grammar.specs.Grammar.Expr.{number, named, grouped, paired, pref
 use Rattle.line_grammar.specs.Grammar.LineForm.{input_line, wide_input_line, let_line, output_line}
 use Rattle.line_grammar.specs.Machine.{Read}
 use Rattle.line_grammar.specs.Postfix.{post, read_of}
-use Rattle.expr_circuit.specs.Programs.{Term, Statement, name_at, number_at, operation, term, statement}
+use Rattle.expr_circuit.specs.Programs.{Term, Statement, operation, term, statement}
+use Rattle.line_grammar.specs.Places.{name_at, number_at}
 use Rattle.expr_circuit.specs.Programs.Term.{constant, variable, negative}
 use Rattle.expr_circuit.specs.Programs.Statement.{input, define, output}
 

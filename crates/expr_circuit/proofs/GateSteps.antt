@@ -9,7 +9,7 @@ use Rattle.expr_circuit.specs.declared.fault.ExprFault.TheVariants.{NotUtf8, Syn
 use Rattle.line_grammar.specs.declared.element.ExprElement.{ExprElement}
 use Rattle.line_grammar.specs.declared.element.ExprElement.TheVariants.{Number}
 use Rattle.circuit_model.specs.declared.gate.Operation.TheVariants.{Eq}
-use Rattle.expr_circuit.specs.Programs.{number_at}
+use Rattle.line_grammar.specs.Places.{number_at}
 use Rattle.expr_circuit.specs.declared.wire.Wire.{Wire}
 use Rattle.expr_circuit.specs.declared.wire.DraftGate.{DraftGate}
 use Rattle.expr_circuit.specs.Circuits.{Built, Draft, no_wire, add, copy, all_gates, assembled, netlist, is_large}

@@ -13,7 +13,8 @@ use Rattle.line_grammar.specs.Grammar.{Expr, LineForm, IsExpr, IsLine}
 use Rattle.line_grammar.specs.Grammar.Expr.{number, named, grouped, paired, prefixed, infixed, chosen}
 use Rattle.line_grammar.specs.Grammar.LineForm.{input_line, wide_input_line, let_line, output_line}
 use Rattle.line_grammar.specs.LineFaults.{shallow}
-use Rattle.expr_circuit.specs.Programs.{Term, Statement, name_at, number_at, operation, term, statement}
+use Rattle.expr_circuit.specs.Programs.{Term, Statement, operation, term, statement}
+use Rattle.line_grammar.specs.Places.{name_at, number_at}
 use Rattle.expr_circuit.specs.Programs.Term.{constant, variable, negative, sum, subtraction, product}
 use Rattle.expr_circuit.specs.Programs.Statement.{input, define, output}
 use Rattle.expr_circuit.specs.Faults.{bad, bad_line, twice, knows, AreLines}

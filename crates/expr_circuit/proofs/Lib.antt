@@ -6,7 +6,6 @@ pub mod ValidPrograms
 pub mod LineWalks
 pub mod Elements
 pub mod OneAnswer
-pub mod RingNumbers
 pub mod AssemblySteps
 pub mod GateSteps
 pub mod DraftSteps

@@ -24,7 +24,8 @@ use Rattle.expr_circuit.specs.declared.wire.Wire.{Wire}
 use Rattle.expr_circuit.specs.declared.wire.Wire.TheVariants as wires
 use Rattle.expr_circuit.specs.declared.fault.ExprFault.{ExprFault}
 use Rattle.expr_circuit.specs.declared.fault.ExprFault.TheVariants.{UnknownName, BadConstant, TwiceNamed}
-use Rattle.expr_circuit.specs.Programs.{Term, Statement, bind, name_at, number_at, operation, term, statement}
+use Rattle.expr_circuit.specs.Programs.{Term, Statement, bind, operation, term, statement}
+use Rattle.line_grammar.specs.Places.{name_at, number_at}
 use Rattle.expr_circuit.specs.Programs.Statement.{input, define, output}
 use Rattle.expr_circuit.specs.Faults.{bad, bad_line, twice, knows, Says, Parses, IsBlank, FaultOfLine, AreLines, IsFaultIn}
 use Rattle.expr_circuit.specs.Faults.FaultOfLine.{token_fault, name_fault}

@@ -1,10 +1,11 @@
 -- Programs and first faults of texts.
-use Rattle.std.specs.Prelude.{◌≡◌, ℕ, ◌+◌, nat_eq, nat_lt, ◌⊎◌, Bool, true, false, List, [], ◌∷◌, Option, Some, None, if◌then◌else◌}
+use Rattle.std.specs.Prelude.{◌≡◌, ℕ, ◌+◌, nat_lt, ◌⊎◌, Bool, true, false, List, [], ◌∷◌, Option, Some, None, if◌then◌else◌}
 use Rattle.std.specs.List.{slice_split}
 use Rattle.std.specs.Option.{option_or}
 use Rattle.line_grammar.specs.declared.dialect.Dialect.TheVariants.{Words}
 use Rattle.line_grammar.specs.declared.fault.LineFault.{LineFault}
 use Rattle.line_grammar.specs.declared.fault.LineFault.TheVariants as parts
+use Rattle.line_grammar.specs.Lines.{is_line_end}
 use Rattle.line_grammar.specs.Grammar.{Expr, LineForm, Line}
 use Rattle.line_grammar.specs.Grammar.Expr.{number, named, grouped, prefixed, infixed}
 use Rattle.line_grammar.specs.Grammar.LineForm.{input_line, wide_input_line, let_line, output_line}
@@ -12,7 +13,8 @@ use Rattle.line_grammar.specs.LineFaults as grammar
 use Rattle.line_grammar.specs.LineFaults.{shallow, IsLineFault}
 use Rattle.expr_circuit.specs.declared.fault.ExprFault.{ExprFault}
 use Rattle.expr_circuit.specs.declared.fault.ExprFault.TheVariants.{Syntax, UnknownName, BadConstant, TooDeep, TwiceNamed, Memory}
-use Rattle.expr_circuit.specs.Programs.{Statement, name_at, number_at, statement, bind}
+use Rattle.expr_circuit.specs.Programs.{Statement, statement, bind}
+use Rattle.line_grammar.specs.Places.{name_at, number_at}
 use Rattle.expr_circuit.specs.Programs.Statement.{input, define, output}
 
 -- a line without tokens
@@ -97,10 +99,6 @@ IsFaultIn q known n (line ∷ lines) fault =
 -- no name is known
 abbrev pub none_known : List ℕ → Bool
 none_known x = false
-
--- LF
-abbrev pub is_line_end : ℕ → Bool
-is_line_end c = nat_eq c 10
 
 -- the lines of a text
 abbrev pub lines : List ℕ → List (List ℕ)

@@ -20,7 +20,8 @@ use Rattle.expr_circuit.specs.declared.fault.ExprFault.TheVariants.{NotUtf8, Unk
 use Rattle.expr_circuit.specs.declared.wire.Wire.{Wire}
 use Rattle.expr_circuit.specs.declared.wire.Wire.TheVariants as wires
 use Rattle.expr_circuit.specs.declared.wire.DraftGate.{DraftGate}
-use Rattle.expr_circuit.specs.Programs.{bind, name_at, number_at}
+use Rattle.expr_circuit.specs.Programs.{bind}
+use Rattle.line_grammar.specs.Places.{name_at, number_at}
 use Rattle.expr_circuit.specs.Faults.{lines, of_line}
 use Rattle.expr_circuit.specs.Circuits.{Built, Draft, add, no_wire, no_lines, netlist, is_large}
 

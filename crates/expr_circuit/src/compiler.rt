@@ -1,10 +1,8 @@
 //! Reading a program, and writing its circuit.
-ghost use Rattle.std.specs.Prelude.{◌≡◌, ℕ, ◌+◌, ◌<◌, nat_lt, false, Ok, Err, length, MatchResult, if◌then◌else◌};
+ghost use Rattle.std.specs.Prelude.{◌≡◌, nat_lt, false, Ok, Err, length, MatchResult, if◌then◌else◌};
 ghost use Rattle.std.specs.Str.Lossy.{utf8_valid_len};
 ghost use Rattle.expr_circuit.specs.declared.fault.ExprFault.TheVariants.{NotUtf8};
-ghost use Rattle.expr_circuit.specs.Circuits as circuits;
-ghost use Rattle.expr_circuit.specs.Faults.{lines};
-ghost use Rattle.expr_circuit.specs.Walks.{line_in, lines_in, lines_after, compiled_in};
+ghost use Rattle.expr_circuit.specs.Walks.{compiled_in};
 ghost use Rattle.expr_circuit.specs.Kept.{Gives};
 ghost use Rattle.expr_circuit.specs.Laws.{IsCircuitOf, IsCompiled, Refuses};
 
@@ -14,23 +12,9 @@ use crate::program_line::ProgramLine;
 use crate::wire::Pending;
 use circuit_file::write;
 use circuit_model::Circuit;
-use line_grammar::LineParser;
+use line_grammar::{LineParser, cut_line};
 use mpc_ring::Ring;
 use std::alloc::Global;
-
-/// What stands before the first LF of a text, and what follows it.
-fn cut_line(text: &[u8]) -> (&[u8], &[u8])
-    ensures lines { (q n : ℕ) (d : circuits.Draft) → lines_in q d n (lines text.now)
-        ≡ lines_after q n (line_in q d n result.0.now) (lines result.1.now) }
-    ensures shorter { 0 < length text.now → length result.1.now < length text.now }
-{
-    for at in 0..text.len() {
-        if text[at] == b'\n' {
-            return (&text[..at], &text[at + 1..]);
-        }
-    }
-    (text, &[])
-}
 
 fn check_text(bytes: &[u8]) -> Result<(), ExprFault>
     ensures { result ≡ (if nat_lt (utf8_valid_len bytes.now) (length bytes.now)

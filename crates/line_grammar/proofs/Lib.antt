@@ -6,3 +6,5 @@ pub mod SoundParts
 pub mod Scans
 pub mod Readings
 pub mod WordOperators
+pub mod WrittenNumbers
+pub mod CutLines

@@ -13,7 +13,8 @@ use Rattle.number_circuit.specs.declared.fault.NumberFault.{NumberFault}
 use Rattle.number_circuit.specs.declared.fault.NumberFault.TheVariants.{UnknownName, BadConstant, TooWide}
 use Rattle.number_circuit.specs.Values.{is_number, bound}
 use Rattle.number_circuit.specs.Values.Term.{operation}
-use Rattle.number_circuit.specs.Programs.{name_at, number_at, term}
+use Rattle.number_circuit.specs.Programs.{term}
+use Rattle.line_grammar.specs.Places.{name_at, number_at}
 use Rattle.number_circuit.specs.Faults.{Bounds, of_name, fits, bad, too_wide}
 use Rattle.number_circuit.specs.Walks.{named_bound, elements_in}
 

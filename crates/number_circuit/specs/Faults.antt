@@ -5,6 +5,7 @@ use Rattle.std.specs.Option.{option_or}
 use Rattle.line_grammar.specs.declared.dialect.Dialect.TheVariants.{Numbers}
 use Rattle.line_grammar.specs.declared.fault.LineFault.{LineFault}
 use Rattle.line_grammar.specs.declared.fault.LineFault.TheVariants as parts
+use Rattle.line_grammar.specs.Lines.{is_line_end}
 use Rattle.line_grammar.specs.Grammar.{Expr, LineForm, Line}
 use Rattle.line_grammar.specs.Grammar.Expr.{number, named, grouped, paired, prefixed, infixed, chosen}
 use Rattle.line_grammar.specs.Grammar.LineForm.{input_line, wide_input_line, let_line, output_line}
@@ -14,7 +15,8 @@ use Rattle.number_circuit.specs.declared.fault.NumberFault.{NumberFault}
 use Rattle.number_circuit.specs.declared.fault.NumberFault.TheVariants.{Syntax, UnknownName, BadConstant, TooDeep, TwiceNamed, TooWide, BadWidth, Memory}
 use Rattle.number_circuit.specs.Values.{Term, bound}
 use Rattle.number_circuit.specs.Values.Term.{operation}
-use Rattle.number_circuit.specs.Programs.{Statement, name_at, number_at, term, statement, bind, widest}
+use Rattle.number_circuit.specs.Programs.{Statement, term, statement, bind, widest}
+use Rattle.line_grammar.specs.Places.{name_at, number_at}
 use Rattle.number_circuit.specs.Programs.Statement.{input, define, output}
 
 -- the bound of each name that is known
@@ -122,10 +124,6 @@ IsFaultIn known n (line ∷ lines) fault =
 -- no name is known
 abbrev pub none_known : Bounds
 none_known x = None
-
--- LF
-abbrev pub is_line_end : ℕ → Bool
-is_line_end c = nat_eq c 10
 
 -- a line up to its comment
 abbrev pub told : List ℕ → List ℕ

@@ -6,7 +6,7 @@ use Rattle.line_grammar.specs.declared.element.ExprElement.TheVariants as elemen
 use Rattle.number_circuit.specs.declared.fault.NumberFault.{NumberFault}
 use Rattle.number_circuit.specs.declared.fault.NumberFault.TheVariants.{UnknownName, BadConstant, TooWide}
 use Rattle.number_circuit.specs.Values.{most, extreme}
-use Rattle.number_circuit.specs.Programs.{name_at, number_at}
+use Rattle.line_grammar.specs.Places.{name_at, number_at}
 use Rattle.number_circuit.specs.Faults.{Bounds, fits}
 
 abbrev pub top : List ℕ → ℕ

@@ -1,46 +1,11 @@
--- Cutting a text into lines.
-use Rattle.std.proofs.Common.{◌≡◌, ℕ, zero, suc, ◌+◌, ◌<◌, inl, inr, false, List, [], ◌∷◌, ◌++◌, length, map, take, drop, get_or, refl, sym, ◌∙◌, ap, ap₂, subst, arith}
-use Rattle.std.specs.List.{slice_split}
-use Rattle.std.proofs.lemmas.List.Splits.{slice_split_none, slice_split_at}
-use Rattle.std.proofs.lemmas.List.Elements.{All-from_get_or}
-use Rattle.std.proofs.lemmas.List.{length-take-le}
+-- Line by line through a text.
+use Rattle.std.proofs.Common.{◌≡◌, ℕ, ◌+◌, inl, inr, List, [], ◌∷◌, length, map, refl, sym, ◌∙◌, ap, subst, arith}
+use Rattle.line_grammar.specs.Lines.{IsCut}
 use Rattle.number_circuit.specs.declared.fault.NumberFault.{NumberFault}
 use Rattle.number_circuit.specs.Programs.{Statement}
-use Rattle.number_circuit.specs.Faults.{Bounds, knows, AreLines, IsFaultIn, is_line_end, told, lines}
+use Rattle.number_circuit.specs.Faults.{Bounds, knows, AreLines, IsFaultIn, told, lines}
 use Rattle.number_circuit.proofs.OneAnswer.{not_blank, not_blank_fault}
-use Rattle.number_compiler.specs.Progress.{IsCut}
-
--- no line ends before a place
-abbrev pub NoEnd : List ℕ → ℕ → Type 0
-NoEnd text i = (k : ℕ) → k < i → is_line_end (get_or text k 0) ≡ false
-
-cut : (text : List ℕ) (at : ℕ) → at < length text → take at text ++ (get_or text at 0 ∷ drop (at + 1) text) ≡ text
-cut [] at l = absurd (omega arith)
-cut (c ∷ cs) zero l = refl
-cut (c ∷ cs) (suc at) l = ap (λ t. c ∷ t) (ap (λ k. take at cs ++ (get_or cs at 0 ∷ drop k (c ∷ cs))) (let e : suc at + 1 ≡ suc (at + 1) = omega arith in e) ∙ cut cs at (omega arith))
-
-front_at : (text : List ℕ) (at k : ℕ) → k < at → get_or (take at text) k 0 ≡ get_or text k 0
-front_at [] zero k l = absurd (omega arith)
-front_at [] (suc at) k l = refl
-front_at (c ∷ cs) zero k l = absurd (omega arith)
-front_at (c ∷ cs) (suc at) zero l = refl
-front_at (c ∷ cs) (suc at) (suc k) l = front_at cs at k (omega arith)
-
-split_at : (text : List ℕ) (at : ℕ) → at < length text → get_or text at 0 ≡ 10 → NoEnd text at → slice_split is_line_end text ≡ take at text ∷ slice_split is_line_end (drop (at + 1) text)
-split_at text at l e none =
-    ap (slice_split is_line_end) (sym (cut text at l))
-    ∙ ap (λ c. slice_split is_line_end (take at text ++ (c ∷ drop (at + 1) text))) e
-    ∙ slice_split_at is_line_end (take at text) 10 (drop (at + 1) text)
-    (All-from_get_or (λ c. is_line_end c ≡ false) (take at text) 0 (λ k m. ap is_line_end (front_at text at k (omega (arith, m, length-take-le at text))) ∙ none k (omega (arith, m, length-take-le at text)))) refl
-
--- the first line ends here
-pub first_line : (text : List ℕ) (at : ℕ) (line rest : List ℕ) → at < length text → get_or text at 0 ≡ 10 → NoEnd text at → line ≡ told (take at text) → rest ≡ drop (at + 1) text → IsCut text line rest
-first_line text at line rest l e none is after =
-    let same : line ∷ lines rest ≡ lines text = ap₂ (λ x y. x ∷ lines y) is after ∙ sym (ap (map told) (split_at text at l e none)) in
-    record {
-      says = λ known n p h. subst (λ ls. AreLines known n ls p) same h;
-      fails = λ known n f h. subst (λ ls. IsFaultIn known n ls f) same h;
-    }
+use Rattle.number_compiler.specs.Progress.{GoesOn}
 
 -- a line without bytes says nothing
 no_more : (known : Bounds) (n : ℕ) (p : List Statement) → AreLines known n ([] ∷ []) p → p ≡ []
@@ -61,14 +26,20 @@ last_fails known n line f (inl h) = absurd (no_fault known (n + 1) f h.1)
 last_fails known n line f (inr (inl h)) = inr (inl h)
 last_fails known n line f (inr (inr h)) = absurd (no_fault (knows known h.0) (n + 1) f h.2)
 
--- no line ends in the text
-pub last_line : (text line rest : List ℕ) → NoEnd text (length text) → line ≡ told text → rest ≡ [] → IsCut text line rest
-last_line text line rest none is after =
-    let one : lines text ≡ line ∷ [] = ap (map told) (slice_split_none is_line_end text (All-from_get_or (λ c. is_line_end c ≡ false) text 0 none)) ∙ ap (λ x. x ∷ []) (sym is) in
-    let all : line ∷ lines rest ≡ line ∷ [] ∷ [] = ap (λ y. line ∷ lines y) after in
+-- the first line, up to its comment, and then the others
+pub goes_on : (text line rest said : List ℕ) → said ≡ told line → IsCut text line rest → GoesOn text said rest
+goes_on text line rest said is (inl e) =
+    let same : said ∷ lines rest ≡ lines text = ap (λ x. x ∷ lines rest) is ∙ sym (ap (map told) e) in
     record {
-      says = λ known n p h. subst (λ ls. AreLines known n ls p) (sym one) (last_says known n line p (subst (λ ls. AreLines known n ls p) all h));
-      fails = λ known n f h. subst (λ ls. IsFaultIn known n ls f) (sym one) (last_fails known n line f (subst (λ ls. IsFaultIn known n ls f) all h));
+      says = λ known n p h. subst (λ ls. AreLines known n ls p) same h;
+      fails = λ known n f h. subst (λ ls. IsFaultIn known n ls f) same h;
+    }
+goes_on text line rest said is (inr e) =
+    let one : lines text ≡ said ∷ [] = ap (map told) e.0 ∙ ap (λ x. x ∷ []) (sym is) in
+    let all : said ∷ lines rest ≡ said ∷ [] ∷ [] = ap (λ y. said ∷ lines y) e.1 in
+    record {
+      says = λ known n p h. subst (λ ls. AreLines known n ls p) (sym one) (last_says known n said p (subst (λ ls. AreLines known n ls p) all h));
+      fails = λ known n f h. subst (λ ls. IsFaultIn known n ls f) (sym one) (last_fails known n said f (subst (λ ls. IsFaultIn known n ls f) all h));
     }
 
 -- no line is left

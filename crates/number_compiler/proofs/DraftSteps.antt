@@ -22,7 +22,8 @@ use Rattle.number_gates.specs.declared.wire.Bit.{Bit}
 use Rattle.number_gates.specs.Steps.{Kept, Runs}
 use Rattle.number_circuit.specs.declared.fault.NumberFault.{NumberFault}
 use Rattle.number_circuit.specs.declared.fault.NumberFault.TheVariants.{NotUtf8, Syntax, UnknownName, BadConstant, TooDeep, TwiceNamed, TooLarge, TooWide, BadWidth, Memory}
-use Rattle.number_circuit.specs.Programs.{bind, widest, name_at, number_at, term}
+use Rattle.number_circuit.specs.Programs.{bind, widest, term}
+use Rattle.line_grammar.specs.Places.{name_at, number_at}
 use Rattle.number_circuit.specs.Programs.Statement.{input, define, output}
 use Rattle.number_circuit.specs.Faults.{IsBlank, Parses, FaultOfLine, bad, bad_width, twice, bad_line, of_line}
 use Rattle.number_circuit.specs.Faults.FaultOfLine.{token_fault, name_fault}

@@ -12,7 +12,7 @@ use Rattle.number_gates.proofs.RunSteps.{runs_result, runs_then, runs_along, run
 use Rattle.number_circuit.specs.declared.fault.NumberFault.{NumberFault}
 use Rattle.number_circuit.specs.declared.fault.NumberFault.TheVariants.{UnknownName, TooWide, BadConstant, NotUtf8, Syntax, TooDeep, TwiceNamed, TooLarge, BadWidth, Memory}
 use Rattle.number_circuit.specs.Values.{most, extreme}
-use Rattle.number_circuit.specs.Programs.{name_at, number_at}
+use Rattle.line_grammar.specs.Places.{name_at, number_at}
 use Rattle.number_circuit.specs.Faults.{fits}
 use Rattle.list_laws.specs.Answers as answers
 use Rattle.number_circuit.specs.Walks.{top, named_bound, if_fits, says_number, element_in, elements_in}

@@ -7,7 +7,6 @@ pub mod OutputValues
 pub mod ProgramReads
 pub mod ValidCircuits
 pub mod OperatorSteps
-pub mod WrittenNumbers
 pub mod ElementSteps
 pub mod ElementWalks
 pub mod ExpressedTerms

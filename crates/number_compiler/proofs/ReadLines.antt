@@ -7,7 +7,7 @@ use Rattle.number_circuit.specs.Programs.{Statement}
 use Rattle.number_circuit.specs.Faults.{Bounds, IsBlank, Says, FaultOfLine, knows, AreLines, IsFaultIn, none_known, lines}
 use Rattle.number_compiler.specs.Circuits.{Draft, no_lines, statement_steps, program_steps}
 use Rattle.number_compiler.specs.Elements.{bounds_of}
-use Rattle.number_compiler.specs.Progress.{IsReadTo, IsCut}
+use Rattle.number_compiler.specs.Progress.{IsReadTo, GoesOn}
 
 -- statements one after the other
 run_more : (p : List Statement) (s : Statement) (d : Draft) (k : Kept) → run (program_steps d (p ++ (s ∷ []))) k ≡ run (statement_steps (run (program_steps d p) k).result s) (run (program_steps d p) k).kept
@@ -22,7 +22,7 @@ pub runs_more : (p : List Statement) (s : Statement) (d e : Draft) (k new : Kept
 unfolding run
 runs_more p s d e k new r t = record { is = run_more p s no_lines no_gates ∙ ap (λ (x : Ran Draft). run (statement_steps x.result s) x.kept) r.is ∙ t.is }
 
-module _ (text : List ℕ) (n : ℕ) (rest first after : List ℕ) (d : Draft) (k : Kept) (cut : IsCut rest first after) (read : IsReadTo text n rest d k) where
+module _ (text : List ℕ) (n : ℕ) (rest first after : List ℕ) (d : Draft) (k : Kept) (cut : GoesOn rest first after) (read : IsReadTo text n rest d k) where
   pub read_blank : IsBlank first → IsReadTo text (n + 1) after d k
   read_blank blank = record {
     program = read.program;

@@ -17,7 +17,7 @@ use Rattle.number_compiler.specs.Circuits.{Draft}
 use Rattle.number_compiler.specs.Elements.{bounds_of}
 use Rattle.number_compiler.specs.Keeps.{Keeps, TakesLine, IsDraftOf, Assembles}
 use Rattle.number_compiler.specs.Laws.{IsCircuitOf, Refuses}
-use Rattle.number_compiler.specs.Progress.{IsReadTo, IsCut}
+use Rattle.number_compiler.specs.Progress.{IsReadTo, GoesOn}
 use Rattle.number_compiler.proofs.CutLines.{no_line}
 use Rattle.number_compiler.proofs.ReadLines.{read_blank, read_said, read_fault}
 
@@ -47,7 +47,7 @@ some_bytes (suc n) e = omega arith
 pub none_bytes : (n : ℕ) → nat_eq n 0 ≡ true → n ≡ 0
 none_bytes n e = eqb-true n 0 e
 
-module _ (bytes rest line after : List ℕ) (n : ℕ) (d : Draft) (s : DraftKept) (cut : IsCut rest line after) (read : IsReadTo bytes n rest d s.gates) where
+module _ (bytes rest line after : List ℕ) (n : ℕ) (d : Draft) (s : DraftKept) (cut : GoesOn rest line after) (read : IsReadTo bytes n rest d s.gates) where
   -- a line more was read
   pub line_goes : (new : DraftKept) (r : Result (Unit {0}) NumberFault) (u : Unit {0}) → r ≡ Ok u → TakesLine d line n s r new → (e : Draft) × Keeps new e × IsReadTo bytes (n + 1) after e new.gates
   line_goes new (Err f) u e h = cc

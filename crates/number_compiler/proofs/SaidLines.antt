@@ -11,7 +11,8 @@ use Rattle.number_gates.specs.Steps.{done, Kept, Runs}
 use Rattle.number_gates.proofs.RunSteps.{runs_result, runs_then}
 use Rattle.number_circuit.specs.declared.fault.NumberFault.TheVariants.{TwiceNamed}
 use Rattle.number_circuit.specs.Values.{bound}
-use Rattle.number_circuit.specs.Programs.{Statement, bind, widest, name_at, number_at, term}
+use Rattle.number_circuit.specs.Programs.{Statement, bind, widest, term}
+use Rattle.line_grammar.specs.Places.{name_at, number_at}
 use Rattle.number_circuit.specs.Programs.Statement.{input, define, output}
 use Rattle.number_circuit.specs.Faults.{of_name, bad_width, twice, Parses, Says, knows}
 use Rattle.number_compiler.specs.Terms.{Value, fitted}

@@ -4,7 +4,7 @@ use Rattle.line_grammar.specs.declared.element.ExprElement.{ExprElement}
 use Rattle.line_grammar.specs.declared.element.ExprElement.TheVariants as elements
 use Rattle.number_gates.specs.Steps.{Steps, done, ◌>>=◌}
 use Rattle.number_circuit.specs.Values.{most}
-use Rattle.number_circuit.specs.Programs.{name_at, number_at}
+use Rattle.line_grammar.specs.Places.{name_at, number_at}
 use Rattle.number_circuit.specs.Faults.{Bounds}
 use Rattle.number_circuit.specs.Walks.{says_number}
 use Rattle.number_compiler.specs.Terms.{Value, operator_steps, pair_steps, inverse_steps, choice_steps, constant_value}

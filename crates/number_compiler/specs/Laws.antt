@@ -8,8 +8,8 @@ use Rattle.number_circuit.specs.Laws.{HasItsValue, IsProgram, IsFault}
 use Rattle.number_compiler.specs.Widths.{bits_of}
 use Rattle.number_compiler.specs.Circuits.{circuit, has_large_circuit}
 
--- the circuit is a valid one, with an input value of its width for each input line, an output value as wide as its bound
--- for each output line, and outputs that are the values of those lines, for all bits of the inputs
+-- the circuit is a valid one: it has an input value of its width for each input line and an output value with the bits
+-- of its bound for each output line, and its outputs are the values of those lines, for all bits of the inputs
 pub record IsRight (p : List Statement) : Type 0 where
   pub valid : IsCircuit (circuit p)
   pub inputs : (circuit p).inputs ≡ input_widths p

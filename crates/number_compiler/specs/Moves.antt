@@ -16,9 +16,10 @@ abbrev pub Fails : {B : Type 0} → NumberFault → Result B NumberFault → Typ
 Fails Memory wanted = Unit {0}
 Fails fault wanted = wanted ≡ Err fault
 
--- where these values wait and these gates are, and the element before was a number of the text or not: what element x of
--- line n makes of their bounds, and its gates, or its fault
-abbrev pub Moves : {A : Type 0} → Names → List ℕ → ℕ → Bool → ExprElement → List Value → Kept → Result A NumberFault → List Value → Kept → Type 0
+-- where these values wait and these gates are, and the element before was a number of the text or not: what element x
+-- of line n makes of their bounds, and its gates, or its fault
+abbrev pub Moves : {A : Type 0} → Names → List ℕ → ℕ → Bool → ExprElement → List Value → Kept → Result A NumberFault
+    → List Value → Kept → Type 0
 Moves of line n by_number x vs old (Ok a) ws new =
     (element_in (bounds_of of) line n by_number x (mosts vs) ≡ Ok (mosts ws))
     × Runs (element_steps of line by_number x vs) old ws new

@@ -18,7 +18,7 @@ pub record IsReadTo (text : List ℕ) (n : ℕ) (rest : List ℕ) (d : Draft) (k
       → IsFaultIn none_known 1 (lines text) fault
 
 -- what this line and then the lines of the rest say, or which fault they have, the text says or has
-pub record IsCut (text line rest : List ℕ) : Type 0 where
+pub record GoesOn (text line rest : List ℕ) : Type 0 where
   pub says : (known : Bounds) (n : ℕ) (p : List Statement) → AreLines known n (line ∷ lines rest) p
       → AreLines known n (lines text) p
   pub fails : (known : Bounds) (n : ℕ) (fault : NumberFault) → IsFaultIn known n (line ∷ lines rest) fault

@@ -1,17 +1,16 @@
 //! Reading a program.
-ghost use Rattle.std.specs.Prelude.{◌≡◌, ◌<◌, ◌≤◌, length, nat_eq, nat_lt, not, false, Ok, Err, MatchResult, if◌then◌else◌};
+ghost use Rattle.std.specs.Prelude.{◌≡◌, ◌≤◌, length, nat_eq, nat_lt, not, false, Ok, Err, MatchResult, if◌then◌else◌};
 ghost use Rattle.std.specs.List.{prefix_len};
 ghost use Rattle.std.specs.Str.Lossy.{utf8_valid_len};
 ghost use Rattle.number_circuit.specs.declared.fault.NumberFault.TheVariants.{NotUtf8};
 ghost use Rattle.number_circuit.specs.Faults.{told};
-ghost use Rattle.number_compiler.specs.Progress.{IsCut};
 ghost use Rattle.number_compiler.specs.Laws.{IsCircuitOf, Refuses};
 
 use crate::draft::Draft;
 use crate::elements::NumberLine;
 use crate::pending::Pending;
 use circuit_model::Circuit;
-use line_grammar::LineParser;
+use line_grammar::{LineParser, cut_line};
 use number_circuit::NumberFault;
 use std::alloc::Global;
 
@@ -37,19 +36,6 @@ fn told(line: &[u8]) -> &[u8]
     &line[..told_length(line)]
 }
 
-/// The first line of a text, up to its comment, and what follows the line.
-fn cut_line(text: &[u8]) -> (&[u8], &[u8])
-    ensures cut { IsCut text.now result.0.now result.1.now }
-    ensures shorter { 0 < length text.now → length result.1.now < length text.now }
-{
-    for at in 0..text.len() {
-        if text[at] == b'\n' {
-            return (told(&text[..at]), &text[at + 1..]);
-        }
-    }
-    (told(text), &[])
-}
-
 fn check_text(bytes: &[u8]) -> Result<(), NumberFault>
     ensures { result ≡ (if nat_lt (utf8_valid_len bytes.now) (length bytes.now)
         then Err (NotUtf8 (utf8_valid_len bytes.now)) else Ok tt) }
@@ -73,7 +59,8 @@ fn read_lines(alloc: Global, bytes: &[u8]) -> Result<Circuit, NumberFault>
     let mut rest = bytes;
     let mut number = 1;
     while !rest.is_empty() {
-        let (text, after) = cut_line(rest);
+        let (line, after) = cut_line(rest);
+        let text = told(line);
         let line = NumberLine { text, number };
         match draft.line(alloc, &line, &mut parser, &mut pending) {
             Ok(()) => {}

@@ -1,7 +1,7 @@
 //! The gates of the elements of an expression.
 ghost use Rattle.std.specs.Prelude.{◌≡◌, Bool, Some, None, if◌then◌else◌};
 ghost use Rattle.number_circuit.specs.Faults.{fits};
-ghost use Rattle.number_circuit.specs.Programs.{number_at};
+ghost use Rattle.line_grammar.specs.Places.{number_at};
 ghost use Rattle.number_circuit.specs.Walks.{says_number};
 ghost use Rattle.line_grammar.specs.declared.element.ExprElement.TheVariants as elements;
 ghost use Rattle.number_gates.specs.Steps.{Kept};

@@ -1,6 +1,7 @@
 //! The inputs of a program.
 ghost use Rattle.std.specs.Prelude.{◌≡◌, ◌-◌, ◌<◌, ◌≤◌, ◌⊎◌, ◌*◌, IfOk, MatchOption, MatchResult, None, Some};
-ghost use Rattle.number_circuit.specs.Programs.{number_at, widest};
+ghost use Rattle.number_circuit.specs.Programs.{widest};
+ghost use Rattle.line_grammar.specs.Places.{number_at};
 ghost use Rattle.number_circuit.specs.Faults.{bad_width};
 ghost use Rattle.number_compiler.specs.Terms.{fitted};
 ghost use Rattle.number_compiler.specs.Circuits.{input_bits};

@@ -193,7 +193,8 @@ pub fn choice(
     a: &Number,
     b: &Number,
 ) -> Result<Number, AllocError>
-    ensures { IfOk result (λ c. Runs (choice_steps (seen which.now) (seen a.now) (seen b.now)) gates.old (seen c) gates.new) }
+    ensures { IfOk result (λ c. Runs (choice_steps (seen which.now) (seen a.now) (seen b.now)) gates.old (seen c)
+        gates.new) }
 {
     let some = gates.some(alloc, &which.bits)?;
     let bits = gates.choose(alloc, some, &a.bits, &b.bits)?;

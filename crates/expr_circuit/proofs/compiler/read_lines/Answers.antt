@@ -3,7 +3,7 @@ use Rattle.expr_circuit.specs.Circuits.{no_lines}
 use Rattle.expr_circuit.specs.Walks.{line_in}
 use Rattle.expr_circuit.specs.Kept.{Gives}
 use Rattle.expr_circuit.proofs.CompileSteps.{line_goes, line_faulty, line_read, line_fails, lines_read, some_bytes, none_bytes, lines_sound}
-use Rattle.expr_circuit.proofs.CutLines.{no_line}
+use Rattle.expr_circuit.proofs.CutLines.{cut_in, no_line}
 use Rattle.expr_circuit.proofs.compiler.read_lines.Goals as goal
 
 pub loop-rest-init : goal.loop-rest-init
@@ -12,7 +12,7 @@ loop-rest-init c = record { made = (no_lines, c.new-draft.ensures, refl); room =
 pub returns-in-Err : goal.returns-in-Err
 returns-in-Err c =
     let made = c.loop-rest.invariant.made in
-    line_fails c.args.ring c.loop-rest.number c.args.bytes.now made.0 c.loop-rest.rest.now c.cut_line.result.0.now c.cut_line.result.1.now c.in-Err.fault c.requires made.2 (c.cut_line.ensures.lines (2 ^ c.args.ring) c.loop-rest.number made.0)
+    line_fails c.args.ring c.loop-rest.number c.args.bytes.now made.0 c.loop-rest.rest.now c.cut_line.result.0.now c.cut_line.result.1.now c.in-Err.fault c.requires made.2 (cut_in (2 ^ c.args.ring) c.loop-rest.number made.0 c.loop-rest.rest.now c.cut_line.result.0.now c.cut_line.result.1.now c.cut_line.ensures.cut)
     (line_faulty c.line.result c.in-Err.fault c.line.new.self (line_in (2 ^ c.args.ring) made.0 c.loop-rest.number c.cut_line.result.0.now) c.in-Err.is (c.line.ensures made.0 made.1))
 
 pub loop-rest-preserved : goal.loop-rest-preserved
@@ -23,7 +23,7 @@ loop-rest-preserved c =
     let less : length c.cut_line.result.1.now < length c.loop-rest.rest.now = c.cut_line.ensures.shorter some in
     let room : c.loop-rest.number + length c.loop-rest.rest.now ≤ 1 + length c.args.bytes.now = c.loop-rest.invariant.room in
     record {
-      made = (next.0, next.2, line_read (2 ^ c.args.ring) c.loop-rest.number made.0 next.0 c.loop-rest.rest.now c.cut_line.result.0.now c.cut_line.result.1.now _ made.2 (c.cut_line.ensures.lines (2 ^ c.args.ring) c.loop-rest.number made.0) next.1);
+      made = (next.0, next.2, line_read (2 ^ c.args.ring) c.loop-rest.number made.0 next.0 c.loop-rest.rest.now c.cut_line.result.0.now c.cut_line.result.1.now _ made.2 (cut_in (2 ^ c.args.ring) c.loop-rest.number made.0 c.loop-rest.rest.now c.cut_line.result.0.now c.cut_line.result.1.now c.cut_line.ensures.cut) next.1);
       room = omega arith;
     }
 

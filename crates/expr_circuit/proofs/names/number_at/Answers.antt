@@ -1,5 +1,5 @@
 use Rattle.std.proofs.Common.{◌^◌, sym, ◌∙◌, arith}
-use Rattle.expr_circuit.proofs.RingNumbers.{none_written, number_found, number_fits, number_exceeds}
+use Rattle.line_grammar.proofs.WrittenNumbers.{none_written, number_found, number_fits, number_exceeds}
 use Rattle.expr_circuit.proofs.names.number_at.Goals as goal
 
 pub returns-then-found-largest : goal.returns-then-found-largest

@@ -1,6 +1,6 @@
 use Rattle.std.proofs.Common.{sym, ◌∙◌, ap}
 use Rattle.number_compiler.specs.Seen.{seen}
-use Rattle.number_circuit.specs.Programs.{name_at}
+use Rattle.line_grammar.specs.Places.{name_at}
 use Rattle.number_compiler.specs.Named.{seen_if, value_named}
 use Rattle.number_compiler.proofs.ElementSteps.{name_moves}
 use Rattle.number_compiler.proofs.elements.name.Goals as goal

@@ -1,5 +1,5 @@
 use Rattle.std.proofs.Common.{refl, sym, ◌∙◌, ap, ap₂, subst, arith, ◌++◌, ◌∷◌, []}
-use Rattle.number_circuit.specs.Programs.{name_at}
+use Rattle.line_grammar.specs.Places.{name_at}
 use Rattle.number_compiler.specs.Named.{Binds}
 use Rattle.number_compiler.specs.Seen.{seen}
 use Rattle.number_compiler.proofs.InputSteps.{input_made}

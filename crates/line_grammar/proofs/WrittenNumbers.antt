@@ -6,7 +6,7 @@ use Rattle.std.specs.Str.Parse.{digits_value}
 use Rattle.std.proofs.lemmas.Bool.{lt-ltb, le-ltb, ltb-false}
 use Rattle.text_tokens.specs.Numbers.{is_digits, number_written}
 use Rattle.text_tokens.proofs.Values.{all-is_digits}
-use Rattle.expr_circuit.specs.Programs.{number_at}
+use Rattle.line_grammar.specs.Places.{number_at}
 
 digits_step : (c : ℕ) (cs : List ℕ) (b : Bool) → is_ascii_digit c ≡ b → list_all is_ascii_digit (take_while is_ascii_digit cs) ≡ true → list_all is_ascii_digit (take (cond b (1 + prefix_len is_ascii_digit cs) 0) (c ∷ cs)) ≡ true
 digits_step c cs true e rest =
@@ -23,7 +23,7 @@ unfolding number_written
 written_if t e = ap (λ b. cond (b && nat_lt (digits_value 10 t) (2 ^ 64)) (Some (digits_value 10 t)) None) e
 
 -- where a text has a run of digits, what they write
-run_written : (text : List ℕ) (at : ℕ) (t : List ℕ) → t ≡ take_while is_ascii_digit (drop at text) → nat_eq (length t) 0 ≡ false → number_written t ≡ cond (nat_lt (number_at text at) (2 ^ 64)) (Some (number_at text at)) None
+pub run_written : (text : List ℕ) (at : ℕ) (t : List ℕ) → t ≡ take_while is_ascii_digit (drop at text) → nat_eq (length t) 0 ≡ false → number_written t ≡ cond (nat_lt (number_at text at) (2 ^ 64)) (Some (number_at text at)) None
 run_written text at t is some =
     written_if t (sym (all-is_digits t some) ∙ ap (list_all is_ascii_digit) is ∙ digits_taken (drop at text))
     ∙ ap (λ s. cond (nat_lt (digits_value 10 s) (2 ^ 64)) (Some (digits_value 10 s)) None) is
