@@ -1,5 +1,5 @@
 -- The steps of adding a line to a draft.
-use Rattle.std.proofs.Common.{◌≡◌, ℕ, ◌+◌, ◌<◌, ◌≤◌, ◌⊎◌, inl, inr, Bool, true, false, cond, nat_lt, List, [], ◌∷◌, ◌++◌, length, map, take, reverse, Option, Some, None, Result, Ok, Err, refl, sym, ◌∙◌, ap, ap₂, subst, arith, length-append, append_assoc}
+use Rattle.std.proofs.Common.{◌≡◌, ℕ, ◌+◌, inl, inr, Bool, true, false, cond, nat_lt, List, [], ◌∷◌, ◌++◌, length, take, reverse, Option, Some, None, Result, Ok, Err, refl, sym, ◌∙◌, ap, ap₂, subst, arith, length-append, append_assoc}
 use Rattle.std.specs.Prelude.{MatchResult, OnOk}
 use Rattle.std.specs.Option.{is_some, option_or}
 use Rattle.std.proofs.lemmas.Bool.{lt-ltb, le-ltb}
@@ -13,27 +13,26 @@ use Rattle.line_grammar.specs.declared.fault.LineFault.{LineFault}
 use Rattle.line_grammar.specs.declared.fault.LineFault.TheVariants as parts
 use Rattle.line_grammar.specs.Grammar.{Expr, LineForm, IsLine, Line}
 use Rattle.line_grammar.specs.Grammar.LineForm.{input_line, wide_input_line, let_line, output_line}
-use Rattle.line_grammar.specs.LineFaults.{shallow, IsLineFault}
+use Rattle.line_grammar.specs.LineFaults.{shallow}
 use Rattle.line_grammar.specs.Laws.{IsRead, Refuses}
 use Rattle.line_grammar.specs.Machine.{Read, State}
 use Rattle.line_grammar.specs.Postfix.{post, read_of}
 use Rattle.line_grammar.specs.Scanned.{read_kept}
-use Rattle.number_gates.specs.declared.wire.Bit.{Bit}
-use Rattle.number_gates.specs.Steps.{Kept, Runs}
+use Rattle.number_gates.specs.Steps.{Kept}
 use Rattle.number_circuit.specs.declared.fault.NumberFault.{NumberFault}
 use Rattle.number_circuit.specs.declared.fault.NumberFault.TheVariants.{NotUtf8, Syntax, UnknownName, BadConstant, TooDeep, TwiceNamed, TooLarge, TooWide, BadWidth, Memory}
 use Rattle.number_circuit.specs.Programs.{bind, widest, term}
 use Rattle.line_grammar.specs.Places.{name_at, number_at}
 use Rattle.number_circuit.specs.Programs.Statement.{input, define, output}
-use Rattle.number_circuit.specs.Faults.{IsBlank, Parses, FaultOfLine, bad, bad_width, twice, bad_line, of_line}
+use Rattle.number_circuit.specs.Faults.{Parses, bad, bad_width, twice, bad_line, of_line}
 use Rattle.number_circuit.specs.Faults.FaultOfLine.{token_fault, name_fault}
 use Rattle.number_compiler.specs.declared.draft.Draft.{Draft as DraftKept}
 use Rattle.number_compiler.specs.declared.names.NamedNumbers.{NamedNumbers}
 use Rattle.number_compiler.specs.declared.number.Number.{Number}
 use Rattle.number_compiler.specs.Terms.{Value, fitted}
-use Rattle.number_compiler.specs.Circuits.{Names, Draft, input_bits, with_input, with_name, with_output, all_bits, widths_of}
-use Rattle.number_compiler.specs.Elements.{most_known, bounds_of}
-use Rattle.number_compiler.specs.Keeps.{Keeps, Adds, TakesLine, TakesForm}
+use Rattle.number_compiler.specs.Circuits.{Names, Draft, input_bits, with_input, with_name, with_output, all_bits}
+use Rattle.number_compiler.specs.Elements.{bounds_of}
+use Rattle.number_compiler.specs.Keeps.{Keeps, TakesLine, TakesForm}
 use Rattle.number_compiler.specs.Moves.{Expresses}
 use Rattle.number_compiler.specs.Named.{AreNames, Binds}
 use Rattle.number_compiler.specs.Progress.{IsSaid}
@@ -145,17 +144,17 @@ pub input_takes : (d : Draft) (line : List ℕ) (n x w : ℕ) (s new : DraftKept
 input_takes d line n x w s new v (Err f) k wide made b gates wires inputs outputs bits is parsed =
     fault_takes d line n (wide_input_line x w) is s new f parsed (first_right f (bad_width line n w) (twice (bounds_of d.of) line n x) wide (bind_first d.of line n x v new.names f b))
 input_takes d line n x w s new v (Ok a) k wide made b gates wires inputs outputs bits is parsed = inr (record {
-    statement = input (name_at line x) (number_at line w);
-    draft = with_input d (name_at line x) (number_at line w);
-    said = subst (λ (g : Kept). IsSaid d line n (input (name_at line x) (number_at line w)) s.gates (with_input d (name_at line x) (number_at line w)) g) (sym gates) (said_input d line n x w is s.gates parsed wide b.0);
-    keeps = record {
-      names = subst (λ (u : Value). AreNames new.names (bind d.of (name_at line x) (Some u))) made b.1;
-      wires = wires;
-      inputs = inputs;
-      outputs = ap (λ v. v.items) outputs ∙ k.outputs;
-      bits = ap (λ v. v.items) bits ∙ k.bits;
-    };
-  })
+  statement = input (name_at line x) (number_at line w);
+  draft = with_input d (name_at line x) (number_at line w);
+  said = subst (λ (g : Kept). IsSaid d line n (input (name_at line x) (number_at line w)) s.gates (with_input d (name_at line x) (number_at line w)) g) (sym gates) (said_input d line n x w is s.gates parsed wide b.0);
+  keeps = record {
+    names = subst (λ (u : Value). AreNames new.names (bind d.of (name_at line x) (Some u))) made b.1;
+    wires = wires;
+    inputs = inputs;
+    outputs = ap (λ v. v.items) outputs ∙ k.outputs;
+    bits = ap (λ v. v.items) bits ∙ k.bits;
+  };
+})
 
 -- a width that isn't one
 pub width_takes : (d : Draft) (line : List ℕ) (n x w : ℕ) (s new : DraftKept) (f : NumberFault) → bad_width line n w ≡ Some f → TakesForm d line n (wide_input_line x w) s (Err f) new
@@ -200,11 +199,11 @@ define_fails d line n x e elements s new gates f found spelled err h is parsed =
 pub output_takes : (d : Draft) (line : List ℕ) (n : ℕ) (e : Expr) (elements : List ExprElement) (s new : DraftKept) (c : Number) (found : Result Number NumberFault) (a : Unit {0}) → elements ≡ post e [] → found ≡ Ok c
     → Expresses d.of line n elements s.gates found new.gates → Keeps new (with_output d (seen c)) → TakesForm d line n (output_line e) s (Ok a) new
 output_takes d line n e elements s new c found a spelled ok h k is parsed = inr (record {
-    statement = output (term line e);
-    draft = with_output d (seen c);
-    said = said_output d line n e is s.gates new.gates (seen c) parsed (found_term d.of line n e elements s.gates new.gates c found spelled ok h);
-    keeps = k;
-  })
+  statement = output (term line e);
+  draft = with_output d (seen c);
+  said = said_output d line n e is s.gates new.gates (seen c) parsed (found_term d.of line n e elements s.gates new.gates c found spelled ok h);
+  keeps = k;
+})
 
 pub output_fails : (d : Draft) (line : List ℕ) (n : ℕ) (e : Expr) (elements : List ExprElement) (s new : DraftKept) (gates : Kept) (f : NumberFault) (found : Result Number NumberFault) → elements ≡ post e [] → found ≡ Err f
     → Expresses d.of line n elements s.gates found gates → TakesForm d line n (output_line e) s (Err f) new

@@ -18,3 +18,4 @@ pub mod AssemblySteps
 pub mod InputSteps
 pub mod Sizes
 pub mod ReadSteps
+pub mod WireDepths

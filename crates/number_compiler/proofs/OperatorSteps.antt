@@ -1,5 +1,5 @@
 -- The gates of operators, step by step.
-use Rattle.std.proofs.Common.{◌≡◌, ℕ, List, [], ◌∷◌, max, refl, sym, ◌∙◌, ap, ap₂}
+use Rattle.std.proofs.Common.{◌≡◌, ℕ, List, [], ◌∷◌, Result, Ok, IfOk, max, refl, sym, ◌∙◌, ap, ap₂, subst}
 use Rattle.line_grammar.specs.declared.operator.Infix.{Infix}
 use Rattle.line_grammar.specs.declared.operator.Pair.{Pair}
 use Rattle.number_gates.specs.declared.wire.Bit.{Bit}
@@ -9,6 +9,9 @@ use Rattle.number_gates.specs.BitGates.{opposite}
 use Rattle.number_gates.specs.Numbers.{some, less, choose}
 use Rattle.number_circuit.specs.Values.{extreme}
 use Rattle.number_compiler.specs.Terms.{Value, fitted, truth_bits, operated, operator_steps, chosen_of, pair_steps, inverse_steps, choice_steps}
+
+pub ok_found : {A E : Type 0} (r : Result A E) (a : A) (P : A → Type 0) → r ≡ Ok a → IfOk r P → P a
+ok_found r a P e h = subst (λ x. IfOk x P) e h
 
 -- the bit of a test is the result
 pub truth_runs : (o x : Infix) (a b : List Bit) (steps : Steps Bit) (old new : Kept) (bit : Bit) (items : List Bit) → o ≡ x → operated x a b ≡ truth_bits steps → Runs steps old bit new → items ≡ bit ∷ [] → Runs (operated o a b) old items new

@@ -16,7 +16,6 @@ use Rattle.number_gates.specs.BitGates.{opposite, both}
 use Rattle.number_gates.specs.Numbers.{some, equal, less}
 use Rattle.number_gates.specs.BitLists.{widened}
 use Rattle.number_laws.specs.Reading.{IsOpen, AreOpen, Reads}
-use Rattle.number_laws.specs.Laws.{AreReading}
 use Rattle.number_laws.proofs.ReadingSteps.{reads_then, reads_done}
 use Rattle.number_laws.proofs.Costing.{costs_reads}
 use Rattle.number_laws.proofs.BitCosts as costs

@@ -7,16 +7,16 @@ use Rattle.line_grammar.specs.declared.dialect.Dialect.TheVariants.{Numbers}
 use Rattle.line_grammar.specs.Grammar.{Expr, IsLine}
 use Rattle.line_grammar.specs.Grammar.LineForm.{wide_input_line, let_line, output_line}
 use Rattle.line_grammar.specs.LineFaults.{shallow}
-use Rattle.number_gates.specs.Steps.{done, Kept, Runs}
+use Rattle.number_gates.specs.Steps.{done, Kept}
 use Rattle.number_gates.proofs.RunSteps.{runs_result, runs_then}
 use Rattle.number_circuit.specs.declared.fault.NumberFault.TheVariants.{TwiceNamed}
 use Rattle.number_circuit.specs.Values.{bound}
-use Rattle.number_circuit.specs.Programs.{Statement, bind, widest, term}
+use Rattle.number_circuit.specs.Programs.{bind, widest, term}
 use Rattle.line_grammar.specs.Places.{name_at, number_at}
 use Rattle.number_circuit.specs.Programs.Statement.{input, define, output}
-use Rattle.number_circuit.specs.Faults.{of_name, bad_width, twice, Parses, Says, knows}
+use Rattle.number_circuit.specs.Faults.{of_name, bad_width, twice, Parses}
 use Rattle.number_compiler.specs.Terms.{Value, fitted}
-use Rattle.number_compiler.specs.Circuits.{Names, Draft, input_bits, with_input, with_name, with_output, statement_steps}
+use Rattle.number_compiler.specs.Circuits.{Names, Draft, input_bits, with_input, with_name, with_output}
 use Rattle.number_compiler.specs.Elements.{most_known, bounds_of}
 use Rattle.number_compiler.specs.Progress.{IsSaid}
 use Rattle.number_compiler.proofs.ExpressedTerms.{IsTerm}

@@ -5,12 +5,11 @@ use Rattle.std.proofs.lemmas.List.{take_all, length-map}
 use Rattle.list_laws.proofs.Tests.{or_true}
 use Rattle.circuit_model.specs.Netlists.{IsCircuit}
 use Rattle.number_gates.specs.declared.wire.DraftGate.{DraftGate}
-use Rattle.number_gates.specs.declared.wire.Bit.{Bit}
-use Rattle.number_gates.specs.Steps.{Kept, Ran}
+use Rattle.number_gates.specs.Steps.{Ran}
 use Rattle.number_circuit.specs.Programs.{Statement}
 use Rattle.number_compiler.specs.declared.draft.Draft.{Draft as DraftKept}
 use Rattle.number_compiler.specs.Terms.{Value}
-use Rattle.number_compiler.specs.Circuits.{Draft, draft_of, all_bits, copy, assembled, widths_of, netlist, gate_count, is_large, circuit, has_large_circuit}
+use Rattle.number_compiler.specs.Circuits.{Draft, draft_of, all_bits, copy, assembled, netlist, gate_count, is_large, circuit, has_large_circuit}
 use Rattle.number_compiler.specs.Keeps.{Keeps, IsDraftOf}
 use Rattle.number_compiler.proofs.OutputValues.{small_draft}
 use Rattle.number_compiler.proofs.ValidCircuits.{circuit_is}

@@ -8,4 +8,5 @@ pub mod Moves
 pub mod Progress
 pub mod Keeps
 pub mod Narrow
+pub mod Depths
 pub mod Laws

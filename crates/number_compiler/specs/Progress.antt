@@ -26,7 +26,7 @@ pub record GoesOn (text line rest : List ℕ) : Type 0 where
 
 -- line n says the statement, of which comes this draft, with these gates
 pub record IsSaid (d : Draft) (line : List ℕ) (n : ℕ) (s : Statement) (old : Kept) (e : Draft) (new : Kept) : Type 0
-    where
-  pub says : Says (bounds_of d.of) line n s
-  pub made : Runs (statement_steps d s) old e new
-  pub known : bounds_of e.of ≡ knows (bounds_of d.of) s
+  where
+    pub says : Says (bounds_of d.of) line n s
+    pub made : Runs (statement_steps d s) old e new
+    pub known : bounds_of e.of ≡ knows (bounds_of d.of) s

@@ -19,14 +19,18 @@ fn ring_of(width: u64) -> Option<Ring>
     ensures { MatchOption result ((width ≡ 0) ⊎ (64 < width))
         (λ ring. (ring ≡ width) × (0 < width) × (width ≤ 64)) }
 {
-    if width > 64 { None } else { Ring::new(width as u32) }
+    if width > 64 {
+        None
+    } else {
+        Ring::new(width as u32)
+    }
 }
 
 /// The width that a line gives an input: its values are the words of this ring.
 pub fn width_at(line: &NumberLine<'_>, at: usize) -> Result<Ring, NumberFault>
     ensures { MatchResult result
         (λ ring. (ring ≡ number_at line.now.text.now at)
-            × (bad_width line.now.text.now line.now.number at ≡ None))
+        × (bad_width line.now.text.now line.now.number at ≡ None))
         (λ fault. bad_width line.now.text.now line.now.number at ≡ Some fault) }
 {
     match written(line.text, at).and_then(ring_of) {
@@ -50,12 +54,7 @@ fn input_bits(alloc: Global, first: u64, end: u64) -> Result<Vec<Bit>, AllocErro
 }
 
 /// The number on the input wires from number `first` on, up to `end`, which is a word of the ring.
-pub fn input_number(
-    alloc: Global,
-    first: u64,
-    end: u64,
-    ring: Ring,
-) -> Result<Number, AllocError>
+pub fn input_number(alloc: Global, first: u64, end: u64, ring: Ring) -> Result<Number, AllocError>
     ensures { IfOk result (λ c. seen c ≡ fitted (widest ring) (input_bits first (end - first))) }
 {
     let bits = input_bits(alloc, first, end)?;

@@ -13,4 +13,6 @@ mod operators;
 mod pending;
 
 pub use compiler::read;
-pub use laws::{a_compiled_program_has_its_values, each_text_has_one_answer};
+pub use laws::{
+    a_compiled_program_has_its_values, compiled_wires_have_depths, each_text_has_one_answer,
+};

@@ -1,5 +1,6 @@
 //! The gates of operators.
-ghost use Rattle.std.specs.Prelude.{◌≡◌, IfOk, Some, None, ◌∷◌, [], if◌then◌else◌};
+ghost use Rattle.std.specs.Prelude.{◌≡◌, IfOk, Ok, Some, None, ◌∷◌, [], if◌then◌else◌};
+ghost use Rattle.number_gates.specs.declared.wire.Bit.{Bit};
 ghost use Rattle.number_gates.specs.Steps.{Runs};
 ghost use Rattle.line_grammar.specs.declared.operator.Infix.TheVariants.{Remainder};
 ghost use Rattle.number_circuit.specs.Values.{most};
@@ -46,6 +47,14 @@ fn one_bit(alloc: Global, bit: Bit) -> Result<Vec<Bit>, AllocError>
     Ok(vec![in alloc; bit]?)
 }
 
+/// The number of the bit that a test tells.
+fn bit_of_test(alloc: Global, test: Result<Bit, AllocError>) -> Result<Vec<Bit>, AllocError>
+    ensures { IfOk result (λ c. (bit : Bit) × (test ≡ Ok bit) × (c.items ≡ bit ∷ [])) }
+{
+    let bit = test?;
+    one_bit(alloc, bit)
+}
+
 /// Whether one of both numbers isn't 0.
 fn either(alloc: Global, gates: &mut BitGates, a: &[Bit], b: &[Bit]) -> Result<Bit, AllocError>
     ensures { IfOk result (λ c. Runs (either a.now b.now) gates.old c gates.new) }
@@ -90,38 +99,14 @@ fn operated(
     ensures { IfOk result (λ c. Runs (operated operator a.now b.now) gates.old c.items gates.new) }
 {
     match operator {
-        Infix::Or => {
-            let bit = either(alloc, gates, a, b)?;
-            one_bit(alloc, bit)
-        }
-        Infix::And => {
-            let bit = both(alloc, gates, a, b)?;
-            one_bit(alloc, bit)
-        }
-        Infix::Equal => {
-            let bit = gates.equal(alloc, a, b)?;
-            one_bit(alloc, bit)
-        }
-        Infix::Unequal => {
-            let bit = unequal(alloc, gates, a, b)?;
-            one_bit(alloc, bit)
-        }
-        Infix::Less => {
-            let bit = gates.less(alloc, a, b)?;
-            one_bit(alloc, bit)
-        }
-        Infix::AtMost => {
-            let bit = at_least(alloc, gates, b, a)?;
-            one_bit(alloc, bit)
-        }
-        Infix::Greater => {
-            let bit = gates.less(alloc, b, a)?;
-            one_bit(alloc, bit)
-        }
-        Infix::AtLeast => {
-            let bit = at_least(alloc, gates, a, b)?;
-            one_bit(alloc, bit)
-        }
+        Infix::Or => bit_of_test(alloc, either(alloc, gates, a, b)),
+        Infix::And => bit_of_test(alloc, both(alloc, gates, a, b)),
+        Infix::Equal => bit_of_test(alloc, gates.equal(alloc, a, b)),
+        Infix::Unequal => bit_of_test(alloc, unequal(alloc, gates, a, b)),
+        Infix::Less => bit_of_test(alloc, gates.less(alloc, a, b)),
+        Infix::AtMost => bit_of_test(alloc, at_least(alloc, gates, b, a)),
+        Infix::Greater => bit_of_test(alloc, gates.less(alloc, b, a)),
+        Infix::AtLeast => bit_of_test(alloc, at_least(alloc, gates, a, b)),
         Infix::Add => gates.sum(alloc, a, b),
         Infix::Subtract => gates.difference(alloc, a, b),
         Infix::Multiply => gates.product(alloc, a, b),

@@ -1,4 +1,3 @@
-use Rattle.std.proofs.Common.{Err, sym, ◌∙◌, subst}
 use Rattle.number_compiler.proofs.DraftSteps.{width_takes, width_found, width_faulty}
 use Rattle.number_compiler.proofs.draft.Draft.input.Goals as goal
 

@@ -1,5 +1,4 @@
-use Rattle.std.proofs.Common.{refl, sym, ◌∙◌, ap, ap₂, subst, arith, ◌++◌, ◌∷◌, []}
-use Rattle.line_grammar.specs.Places.{name_at}
+use Rattle.std.proofs.Common.{refl, ◌∙◌, ap₂, subst, arith, ◌++◌, ◌∷◌, []}
 use Rattle.number_compiler.specs.Named.{Binds}
 use Rattle.number_compiler.specs.Seen.{seen}
 use Rattle.number_compiler.proofs.InputSteps.{input_made}
