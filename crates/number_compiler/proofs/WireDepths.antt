@@ -13,7 +13,7 @@ use Rattle.number_laws.specs.Making.{no_gate}
 use Rattle.number_laws.specs.Depths.{deepest}
 use Rattle.number_circuit.specs.Programs.{Statement}
 use Rattle.number_compiler.specs.Circuits.{Draft, draft_of, all_gates, number_of, gate_of, netlist, circuit, has_large_circuit}
-use Rattle.number_compiler.specs.Depths.{depth_on, HasDepths}
+use Rattle.number_compiler.specs.Depths.{HasDepths}
 use Rattle.number_compiler.proofs.GateLists.{long_gates, gate_at}
 use Rattle.number_compiler.proofs.OutputValues.{small_draft}
 use Rattle.number_compiler.proofs.ValidCircuits.{circuit_is}

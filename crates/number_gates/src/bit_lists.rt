@@ -39,7 +39,7 @@ pub(crate) fn repeated(alloc: Global, bit: Bit, n: usize) -> Result<Vec<Bit>, Al
 pub fn widened(alloc: Global, n: usize, bits: &[Bit]) -> Result<Vec<Bit>, AllocError>
     ensures { IfOk result (λ c. c.items ≡ widened n bits.now) }
 {
-    let mut wide = Vec::with_capacity(alloc, bits.len())?;
+    let mut wide = Vec::with_capacity(alloc, n.max(bits.len()))?;
     wide.extend_from_slice(bits)?;
     let more = repeated(alloc, Bit::Zero, n.saturating_sub(bits.len()))?;
     wide.extend_from_slice(&more)?;
