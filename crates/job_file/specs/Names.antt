@@ -8,7 +8,7 @@ use Rattle.toml_fields.specs.declared.kind.Kind.TheVariants.{Integer, Text, Text
 use Rattle.job_file.specs.declared.field.JobField.{JobField}
 use Rattle.job_file.specs.declared.field.JobField.TheVariants.{Version, RingBits, Parties, Formula, Tolerated, Hosts, Port, Frames, Views, Session, Circuit, Layout, Products, Order, Owners, Readers}
 use Rattle.job_file.specs.declared.layout.SessionLayout.{SessionLayout}
-use Rattle.job_file.specs.declared.layout.SessionLayout.TheVariants.{Gates, Expressions}
+use Rattle.job_file.specs.declared.layout.SessionLayout.TheVariants.{Gates, Expressions, Numbers}
 use Rattle.job_file.specs.declared.limits.TheConstants.{LONGEST_FILE_NAME, LONGEST_HOST}
 use Rattle.circuit_model.specs.declared.layout.CircuitLayout.TheVariants.{Bristol, Ring}
 
@@ -83,6 +83,7 @@ layout_of version_two name =
     if bytes_eq name (codes "bristol") then Some (Gates Bristol)
     else if bytes_eq name (codes "ring") then Some (Gates Ring)
     else if version_two && bytes_eq name (codes "expr") then Some Expressions
+    else if version_two && bytes_eq name (codes "numbers") then Some Numbers
     else None
 
 -- whether this text, file or layers, says that gates go in layers

@@ -8,4 +8,6 @@ pub enum SessionLayout {
     Gates(CircuitLayout),
     /// Expressions, which are compiled to a circuit over words (version 2).
     Expressions,
+    /// A program over whole numbers, which is compiled to a circuit of bits (version 2).
+    Numbers,
 }

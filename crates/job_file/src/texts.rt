@@ -66,6 +66,7 @@ pub fn layout_of(version_two: bool, name: &str) -> Option<SessionLayout>
         "bristol" => Some(SessionLayout::Gates(CircuitLayout::Bristol)),
         "ring" => Some(SessionLayout::Gates(CircuitLayout::Ring)),
         "expr" if version_two => Some(SessionLayout::Expressions),
+        "numbers" if version_two => Some(SessionLayout::Numbers),
         _ => None,
     }
 }

@@ -25,7 +25,7 @@ use Rattle.job_file.specs.declared.field.JobField.TheVariants.{Version, RingBits
 use Rattle.job_file.specs.declared.fault.JobFault.{JobFault}
 use Rattle.job_file.specs.declared.fault.JobFault.TheVariants.{NotToml, Unknown}
 use Rattle.job_file.specs.declared.layout.SessionLayout.{SessionLayout}
-use Rattle.job_file.specs.declared.layout.SessionLayout.TheVariants.{Gates, Expressions}
+use Rattle.job_file.specs.declared.layout.SessionLayout.TheVariants.{Gates, Expressions, Numbers}
 use Rattle.job_file.specs.declared.products.Products.{Products}
 use Rattle.job_file.specs.declared.products.Products.TheVariants.{Direct, Prepared, Ahead}
 use Rattle.job_file.specs.Products.{are_prepared, products_named}
@@ -110,9 +110,11 @@ unfolding layout_of
 layout_back (by_formula text) (Gates Bristol) h = refl
 layout_back (by_formula text) (Gates Ring) h = refl
 layout_back (by_formula text) Expressions h = absurd h
+layout_back (by_formula text) Numbers h = absurd h
 layout_back (by_list masks) (Gates Bristol) h = refl
 layout_back (by_list masks) (Gates Ring) h = refl
 layout_back (by_list masks) Expressions h = refl
+layout_back (by_list masks) Numbers h = refl
 
 products_known : (adversary : AdversaryForm) (products : Products) → HasChoice adversary (are_prepared products)
     → IfSome (products_data products) (λ d. is_known (map field_text (session_fields (two_of adversary))) (field_text ProductsField) ≡ true)

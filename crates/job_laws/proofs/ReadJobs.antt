@@ -23,7 +23,7 @@ use Rattle.job_file.specs.declared.field.JobField.{JobField}
 use Rattle.job_file.specs.declared.field.JobField.TheVariants.{RingBits, Parties, Formula, Tolerated, Hosts, Port, Frames, Views, Session, Circuit, Layout, Products as ProductsField, Order, Owners, Readers}
 use Rattle.job_file.specs.declared.fault.JobFault.{JobFault}
 use Rattle.job_file.specs.declared.fault.JobFault.TheVariants.{NotToml, BadRing, BadFileName, BadLayout, BadProducts, BadOrder, BadOwner, BadCarry, BadReader, BadHost, BadPort, BadTolerated, TooManyTolerated, Missing, Unknown, WrongKind, Names}
-use Rattle.job_file.specs.declared.layout.SessionLayout.TheVariants.{Gates, Expressions}
+use Rattle.job_file.specs.declared.layout.SessionLayout.TheVariants.{Gates, Expressions, Numbers}
 use Rattle.job_file.specs.declared.owner.JobOwner.{JobOwner}
 use Rattle.job_file.specs.declared.owner.JobOwner.TheVariants.{Party}
 use Rattle.job_file.specs.Owners.{is_carry, owner_in, IsOwner}
@@ -111,12 +111,12 @@ masks_below names value (texts ∷ rest) e =
 layout_fits : (adversary : AdversaryForm) (name : List ℕ) → HasLayout adversary (unwrap_or (layout_of (two_of adversary) name) (Gates Ring))
 unfolding layout_of
 layout_fits (by_list masks) name = tt
-layout_fits (by_formula formula) name = fits (bytes_eq name (codes "bristol")) (bytes_eq name (codes "ring")) (bytes_eq name (codes "expr"))
+layout_fits (by_formula formula) name = fits (bytes_eq name (codes "bristol")) (bytes_eq name (codes "ring")) (bytes_eq name (codes "expr")) (bytes_eq name (codes "numbers"))
   where
-    fits : (a b c : Bool) → HasLayout (by_formula formula) (unwrap_or (cond a (Some (Gates Bristol)) (cond b (Some (Gates Ring)) (cond (false && c) (Some Expressions) None))) (Gates Ring))
-    fits true b c = tt
-    fits false true c = tt
-    fits false false c = tt
+    fits : (a b c d : Bool) → HasLayout (by_formula formula) (unwrap_or (cond a (Some (Gates Bristol)) (cond b (Some (Gates Ring)) (cond (false && c) (Some Expressions) (cond (false && d) (Some Numbers) None)))) (Gates Ring))
+    fits true b c d = tt
+    fits false true c d = tt
+    fits false false c d = tt
 
 -- what no field tells is not chosen
 no_choice : (adversary : AdversaryForm) (o : Option Data) (told : Option Bool) → o ≡ None → HasChoice adversary (unwrap_or (cond (is_some o) told (Some false)) false)

@@ -11,7 +11,7 @@ use Rattle.circuit_model.specs.declared.layout.CircuitLayout.TheVariants.{Bristo
 use Rattle.job_file.specs.declared.field.JobField.{JobField}
 use Rattle.job_file.specs.declared.field.JobField.TheVariants.{Version, RingBits, Parties, Formula, Tolerated, Hosts, Port, Frames, Views, Session, Circuit, Layout, Products as ProductsField, Order, Owners, Readers}
 use Rattle.job_file.specs.declared.layout.SessionLayout.{SessionLayout}
-use Rattle.job_file.specs.declared.layout.SessionLayout.TheVariants.{Gates, Expressions}
+use Rattle.job_file.specs.declared.layout.SessionLayout.TheVariants.{Gates, Expressions, Numbers}
 use Rattle.job_file.specs.declared.owner.JobOwner.{JobOwner}
 use Rattle.job_file.specs.declared.owner.JobOwner.TheVariants.{Party, Carried}
 use Rattle.job_file.specs.declared.products.Products.{Products}
@@ -55,6 +55,7 @@ abbrev pub layout_text : SessionLayout → List ℕ
 layout_text (Gates Bristol) = codes "bristol"
 layout_text (Gates Ring) = codes "ring"
 layout_text Expressions = codes "expr"
+layout_text Numbers = codes "numbers"
 
 -- the text of this name, where a choice is told by it; where it is not made, none is told
 abbrev pub choice_data : List ℕ → Bool → Option Data
@@ -137,9 +138,10 @@ document_of_job job =
 
 -- ---- the limits
 
--- expressions come with listed groups alone, since both are of version 2
+-- expressions and programs of numbers come with listed groups alone, since all of these are of version 2
 abbrev pub HasLayout : AdversaryForm → SessionLayout → Type 0
 HasLayout (by_formula text) Expressions = ⊥
+HasLayout (by_formula text) Numbers = ⊥
 HasLayout _ _ = Unit {0}
 
 -- and so do prepared products, gates in layers, short frames and views of nodes

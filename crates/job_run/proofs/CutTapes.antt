@@ -1,11 +1,12 @@
 -- Tapes are cut into the pieces of the desks, and the pieces make the tapes.
-use Rattle.std.proofs.Common.{◌≡◌, ℕ, zero, suc, ◌+◌, ◌*◌, ◌<◌, ◌^◌, List, [], ◌∷◌, ◌++◌, All, length, take, drop, sym, ap, ◌∙◌, arith}
+use Rattle.std.proofs.Common.{◌≡◌, ℕ, ◌+◌, ◌*◌, ◌<◌, ◌^◌, List, [], ◌∷◌, ◌++◌, All, length, take, drop, sym, ap, ◌∙◌, arith}
 use Rattle.std.specs.Prelude.{slice_index, slice_index_or}
 use Rattle.std.proofs.lemmas.List.{length-drop, length-take-le, get_or-take, get_or-drop}
 use Rattle.std.proofs.lemmas.List.Elements.{All-from_recursion, All-take, All-drop}
 use Rattle.list_laws.specs.Lists.{total, joined, listed}
 use Rattle.list_laws.proofs.Totals.{total_eq}
 use Rattle.list_laws.proofs.JoinedLists.{length-joined, joined_place, length-listed, listed_at, listed_is, joined_eq, joined_cuts, joined_step, total_within, every_joined, every_listed}
+use Rattle.party_file.proofs.GivenWidths.{total_same}
 use Rattle.plan_model.specs.Plans.{Plan, words, place}
 use Rattle.share_world.specs.Laws.{AreTapes}
 use Rattle.wire_tables.proofs.ListedRows.{listed_of}
@@ -27,11 +28,6 @@ pub piece_more : (plan : Plan) (tapes : List (List ℕ)) (s p : ℕ) (pieces pie
     → pieces' ≡ joined s (cut_row plan tapes) ++ listed (p + 1) (cut_piece plan tapes s)
 piece_more plan tapes s p pieces pieces' piece so_far is pushed =
     pushed ∙ joined_step p (λ p. cut_piece plan tapes s p ∷ []) (joined s (cut_row plan tapes)) pieces (piece ∷ []) so_far (ap (λ piece. piece ∷ []) is)
-
--- so many equal numbers
-total_same : (n c : ℕ) → total n (λ _. c) ≡ n * c
-total_same zero c = omega arith
-total_same (suc n) c = omega (arith, total_same n c)
 
 -- tapes of the plan, cut into the pieces of all desks
 module _ (plan : Plan) (tapes : List (List ℕ)) (h : AreTapes plan tapes) where

@@ -1,16 +1,20 @@
 -- The same steps over equal names, bytes and lists.
-use Rattle.std.proofs.Common.{◌≡◌, ℕ, ◌<◌, ◌≤◌, ◌+◌, zero, suc, All, List, [], ◌∷◌, length, drop, map, get_or, Result, refl, ap, ap₂, ◌∙◌, subst, arith}
+use Rattle.std.proofs.Common.{◌≡◌, ℕ, Bool, ◌<◌, ◌≤◌, ◌+◌, zero, suc, All, List, [], ◌∷◌, length, drop, map, get_or, Result, refl, ap, ap₂, ◌∙◌, subst, arith}
 use Rattle.std.proofs.lemmas.List.Elements.{All-head, All-tail}
 use Rattle.outer_io.specs.Files.{FilesReading}
 use Rattle.party_set.specs.Parties.{Members}
 use Rattle.plan_faults.specs.declared.part_fault.PartFault.{PartFault}
 use Rattle.circuit_model.specs.Netlists.{Netlist}
 use Rattle.session_slots.specs.Sessions.{Session}
+use Rattle.plan_model.specs.Plans.{Plan}
+use Rattle.party_file.specs.Table.{PartyForm}
+use Rattle.job_file.specs.Jobs.{session_view}
+use Rattle.job_file.specs.declared.job.JobSession.{JobSession}
 use Rattle.job_file.specs.declared.owner.JobOwner.{JobOwner}
 use Rattle.job_file.specs.declared.products.Products.{Products}
 use Rattle.job_walk.specs.declared.stop.Stop.{Stop}
 use Rattle.job_walk.specs.Verdict.{Verdict, Ends}
-use Rattle.job_walk.specs.JobOf.{file_at, groups_in, part_of}
+use Rattle.job_walk.specs.JobOf.{file_at, groups_in, has_numbers, is_numbers, part_of, PartyAt}
 use Rattle.job_walk.specs.Reads.{ReadsAs, WalksAs}
 
 pub file_named : {C : Type 0} (seen : C → List ℕ) (dir name other : List ℕ) (before after : FilesReading) (result : Result C Stop) → name ≡ other
@@ -38,6 +42,16 @@ pub part_same : (line : PartFault → List ℕ) (circuit : Netlist) (products : 
     → WalksAs (λ part. part) (Ends (part_of line circuit products owners (groups_in parties (map (λ (g : Members). g.mask) groups)) before)) result
 part_same line circuit products owners before parties groups result all w =
     subst (λ gs. WalksAs (λ part. part) (Ends (part_of line circuit products owners gs before)) result) (groups_same parties groups all) w
+
+-- a party's file, where the words of the same sessions are numbers
+pub party_same : {C : Type 0} (seen : C → PartyForm) (dir file : List ℕ) (plan : Plan) (p : ℕ) (name : List ℕ) (numeric other : List Bool) (before after : FilesReading) (result : Result C Stop) → numeric ≡ other
+    → ReadsAs dir (file ∷ []) seen (λ m. PartyAt m dir numeric plan p name) before after result → ReadsAs dir (file ∷ []) seen (λ m. PartyAt m dir other plan p name) before after result
+party_same seen dir file plan p name numeric other before after result same r = subst (λ ns. ReadsAs dir (file ∷ []) seen (λ m. PartyAt m dir ns plan p name) before after result) same r
+
+-- the sessions whose words are numbers, by their layouts
+pub numeric_same : (sessions : List JobSession) → map (λ (session : JobSession). is_numbers session.layout) sessions ≡ map has_numbers (map session_view sessions)
+numeric_same [] = refl
+numeric_same (session ∷ sessions) = ap (λ more. is_numbers session.layout ∷ more) (numeric_same sessions)
 
 -- what is left of a list before and after one more
 next_left : {A B : Type 0} (f : A → B) (xs : List A) (i : ℕ) (d : A) → i < length xs → drop i (map f xs) ≡ f (get_or xs i d) ∷ drop (suc i) (map f xs)

@@ -1,5 +1,5 @@
 -- What a log was told of the files that were read.
-use Rattle.std.proofs.Common.{◌≡◌, ℕ, ◌+◌, ◌<◌, List, [], ◌∷◌, ◌++◌, map, take, length, get_or, Option, None, Some, Result, Ok, Err, Bool, true, false, sym, subst, ap, ◌∙◌, refl, append_assoc}
+use Rattle.std.proofs.Common.{◌≡◌, ℕ, ◌+◌, ◌<◌, List, [], ◌∷◌, ◌++◌, map, take, length, get_or, Option, None, Some, Result, Ok, Err, Bool, true, false, sym, subst, ap, ap₂, ◌∙◌, refl, append_assoc}
 use Rattle.std.specs.Prelude.{IfSome, OnOk, nat_le, if◌then◌else◌}
 use Rattle.std.specs.Option.{unwrap_or}
 use Rattle.std.proofs.lemmas.List.{append-nil, map-append, take_more}
@@ -91,9 +91,9 @@ digest_known (Some m) dir job start mid end bytes none first next is =
     is _ (logs_then HasFiles dir (Some m) (job_file ∷ []) (circuit_files job) start mid end first next [] none)
 
 -- what is known of a node, over files that tell the same
-pub node_known : (told told' : Told) (dir : List ℕ) (job : JobForm) (node : List ℕ → NodeForm) (bytes : List ℕ) → told' ≡ told
-    → IfSome told (λ m. bytes ≡ job_digest m dir job) → IfSome told' (λ m. accepted (node bytes) ≡ accepted (node (job_digest m dir job)))
-node_known told told' dir job node bytes same is = known told' (subst (λ t. IfSome t (λ m. bytes ≡ job_digest m dir job)) (sym same) is) where
-  known : (told : Told) → IfSome told (λ m. bytes ≡ job_digest m dir job) → IfSome told (λ m. accepted (node bytes) ≡ accepted (node (job_digest m dir job)))
+pub node_known : (told told' : Told) (dir : List ℕ) (job : JobForm) (node : List Bool → List ℕ → NodeForm) (numeric other : List Bool) (bytes : List ℕ) → told' ≡ told → numeric ≡ other
+    → IfSome told (λ m. bytes ≡ job_digest m dir job) → IfSome told' (λ m. accepted (node numeric bytes) ≡ accepted (node other (job_digest m dir job)))
+node_known told told' dir job node numeric other bytes same alike is = known told' (subst (λ t. IfSome t (λ m. bytes ≡ job_digest m dir job)) (sym same) is) where
+  known : (told : Told) → IfSome told (λ m. bytes ≡ job_digest m dir job) → IfSome told (λ m. accepted (node numeric bytes) ≡ accepted (node other (job_digest m dir job)))
   known None is = tt
-  known (Some m) is = ap (λ d. accepted (node d)) is
+  known (Some m) is = ap₂ (λ ns d. accepted (node ns d)) alike is

@@ -275,6 +275,10 @@ module _ {A : Type 0} (walk : Verdict A → Type 0) (number : ℕ) (line : List 
 pub reads_end : {A C : Type 0} {dir : List ℕ} (seen : C → A) (now : FilesReading) (c : C) → ReadsAs dir [] seen (λ m. Ends (accepted (seen c))) now now (Ok c)
 reads_end seen now c = reads_walk seen (Ends (accepted (seen c))) now (Ok c) (record { ok = refl; stop = tt })
 
+-- and what was read is the same as this
+pub reads_equal : {A C : Type 0} {dir : List ℕ} (seen : C → A) (now : FilesReading) (c : C) (a : A) → seen c ≡ a → ReadsAs dir [] seen (λ m. Ends (accepted a)) now now (Ok c)
+reads_equal {A} {C} {dir} seen now c a same = subst (λ a. ReadsAs dir [] seen (λ m. Ends (accepted a)) now now (Ok c)) same (reads_end seen now c)
+
 -- the same where what is known depends on the files
 pub reads_known : {A C : Type 0} {dir : List ℕ} (seen : C → A) (walk : Contents → Verdict A → Type 0) (now : FilesReading) (c : C) → IfSome now.told (λ m. walk m (accepted (seen c))) → ReadsAs dir [] seen walk now now (Ok c)
 reads_known {A} {C} {dir} seen walk now c known = record { ok = known; quiet = refl; stop = tt; asks = part_none dir [] now; asks_all = asks_none dir now; keeps = keeps_now now }

@@ -1,6 +1,7 @@
 -- The job that files stand for, where they tell what they hold: one walk, in which each file is judged before the next
 -- is read.
-use Rattle.std.specs.Prelude.{◌≡◌, ℕ, ◌+◌, nat_le, Bool, if◌then◌else◌, false, List, [], ◌∷◌, ◌++◌, length, map, Option, None, Some, slice_index}
+use Rattle.std.specs.Prelude.{◌≡◌, ℕ, ◌+◌, ◌==◌, nat_le, pos, Bool, if◌then◌else◌, true, false, not, ◌||◌, List, [], ◌∷◌, ◌++◌, length, map, Option, None, Some, slice_index}
+use Rattle.list_laws.specs.Checks.{◌answers◌}
 use Rattle.party_set.specs.Parties.{Structure, Members, IsQ2}
 use Rattle.group_formula.specs.Trees.{Meaning, is_tolerated}
 use Rattle.group_formula.specs.Formulas.{IsFormula, IsFault}
@@ -8,10 +9,16 @@ use Rattle.group_formula.specs.declared.fault.FormulaFault.{FormulaFault}
 use Rattle.maximal_groups.specs.Families.{maximal_structure, is_tolerated_by}
 use Rattle.q2_test.specs.CoveringPairs.{IsFirstCovering}
 use Rattle.circuit_model.specs.Netlists.{Netlist}
+use Rattle.circuit_model.specs.declared.fault.CircuitFault.{CircuitFault}
+use Rattle.circuit_model.specs.declared.fault.CircuitFault.TheVariants.{WrongRing}
 use Rattle.circuit_file.specs.CircuitFiles.{circuit_in}
 use Rattle.layer_order.specs.Orders.{ordered}
 use Rattle.expr_circuit.specs.Laws.{IsCircuitOf, IsFault as IsProgramFault}
 use Rattle.expr_circuit.specs.declared.fault.ExprFault.{ExprFault}
+use Rattle.number_circuit.specs.declared.fault.NumberFault.{NumberFault}
+use Rattle.number_circuit.specs.Laws.{IsFault as IsNumberFault}
+use Rattle.number_compiler.specs.Circuits.{has_large_circuit}
+use Rattle.number_compiler.specs.Laws.{IsCircuitOf as IsCircuitOfNumbers}
 use Rattle.session_slots.specs.Sessions.{Session}
 use Rattle.session_slots.specs.declared.values.Owner.{Owner}
 use Rattle.session_slots.specs.declared.values.Owner.TheVariants as owner
@@ -28,11 +35,11 @@ use Rattle.job_file.specs.Products.{are_prepared, come_ahead}
 use Rattle.job_file.specs.declared.owner.JobOwner.{JobOwner}
 use Rattle.job_file.specs.declared.owner.JobOwner.TheVariants.{Party, Carried}
 use Rattle.job_file.specs.declared.layout.SessionLayout.{SessionLayout}
-use Rattle.job_file.specs.declared.layout.SessionLayout.TheVariants.{Gates, Expressions}
+use Rattle.job_file.specs.declared.layout.SessionLayout.TheVariants.{Gates, Expressions, Numbers}
 use Rattle.job_file.specs.Faults.{job_in}
 use Rattle.group_text.specs.GroupTexts.{group_in}
 use Rattle.party_file.specs.Table.{PartyForm, party_in}
-use Rattle.refusal_text.specs.Lines.{too_long_line, job_line, group_line, formula_line, groups_line, covering_line, circuit_line, expressions_line, session_line, plan_line, party_line}
+use Rattle.refusal_text.specs.Lines.{too_long_line, job_line, group_line, formula_line, groups_line, covering_line, circuit_line, expressions_line, numbers_line, session_line, plan_line, party_line}
 use Rattle.job_walk.specs.Names as file_names
 use Rattle.job_walk.specs.Verdict.{Verdict, accepted, missing, refused, Ends, Then, verdict_of, unless}
 use Rattle.job_limits.specs.declared.limits.TheConstants.{FILE_LIMIT}
@@ -140,10 +147,39 @@ ExpressionsOf line bits text (missing name) = ⊥
 ExpressionsOf line bits text (refused status told) =
     (fault : ExprFault) × IsProgramFault bits text fault × (status ≡ 3) × (told ≡ line fault)
 
+-- numbers are of bits, so the ring has to be that of one bit
+abbrev pub bits_alone : (CircuitFault → List ℕ) → ℕ → Verdict (Unit {0})
+bits_alone line bits = unless (not (bits == 1) answers WrongRing (pos bits)) line tt
+
+-- the circuit of a program of numbers, or the program's first fault
+unfoldable pub ProgramOf : (NumberFault → List ℕ) → List ℕ → Verdict Netlist → Type 0
+ProgramOf line text (accepted c) = IsCircuitOfNumbers text c
+ProgramOf line text (missing name) = ⊥
+ProgramOf line text (refused status told) =
+    (fault : NumberFault) × IsNumberFault has_large_circuit text fault × (status ≡ 3) × (told ≡ line fault)
+
 -- the circuit that the file of session s tells
 unfoldable pub CircuitOf : SessionLayout → List ℕ → ℕ → ℕ → List ℕ → Verdict Netlist → Type 0
 CircuitOf (Gates layout) file s bits bytes = Ends (verdict_of (circuit_line file s) (circuit_in layout bits bytes))
 CircuitOf Expressions file s bits bytes = ExpressionsOf (expressions_line file s) bits bytes
+CircuitOf Numbers file s bits bytes =
+    Then (Ends (bits_alone (circuit_line file s) bits)) (λ _. ProgramOf (numbers_line file s) bytes)
+
+abbrev pub is_numbers : SessionLayout → Bool
+is_numbers Numbers = true
+is_numbers _ = false
+
+-- whether a session's words are numbers
+abbrev pub has_numbers : SessionForm → Bool
+has_numbers form = is_numbers form.layout
+
+-- whether each session's words are numbers
+abbrev pub numeric_sessions : JobForm → List Bool
+numeric_sessions job = map has_numbers job.sessions
+
+-- whether a session's gates go in layers: those of a program of numbers always do
+abbrev pub has_layers : SessionForm → Bool
+has_layers form = form.layered_gates || has_numbers form
 
 -- the session behind those that were read: its circuit's file, its gates in layers or not, its counts of owners and
 -- readers, and what it carries
@@ -152,7 +188,7 @@ unfoldable pub SessionAt :
 SessionAt files dir job before form =
     Then (Ends (file_at files dir form.circuit)) (λ bytes.
     Then (CircuitOf form.layout form.circuit (length before) job.bits bytes) (λ circuit.
-    Ends (part_of (session_line (length before)) (ordered form.layered_gates circuit) form.products form.owners
+    Ends (part_of (session_line (length before)) (ordered (has_layers form) circuit) form.products form.owners
     (groups_in (length job.names) form.readers) before)))
 
 -- these sessions, after those that were read
@@ -176,11 +212,12 @@ PlanOf job plan (refused status line) =
     × (status ≡ 3)
     × (line ≡ plan_line job.names fault)
 
--- the names of the parties, the group that is asked for, and the plan
+-- the names of the parties, the group that is asked for, the plan, and whether each session's words are numbers
 pub record Planned : Type 0 where
   pub names : List (List ℕ)
   pub group : Option Members
   pub plan : Plan
+  pub numeric : List Bool
 
 -- the plan of a job over this structure, where its circuits are accepted and its sessions fit; each of them keeps what
 -- later ones carry
@@ -189,7 +226,12 @@ unfoldable pub PlannedOf :
 PlannedOf files dir job group s =
     Then (SessionsAfter files dir job [] job.sessions) (λ sessions.
     Then (PlanOf job (plan_of job.bits s (keeping sessions))) (λ plan.
-    Ends (accepted (record { names = job.names; group = group; plan = plan }))))
+    Ends (accepted (record {
+      names = job.names;
+      group = group;
+      plan = plan;
+      numeric = numeric_sessions job;
+    }))))
 
 -- the plan of a folder, for which no party's file is read, and the group that a text asks for
 unfoldable pub PlanAt : Contents → List ℕ → Option (List ℕ) → Verdict Planned → Type 0
@@ -200,16 +242,17 @@ PlanAt files dir asked =
 
 -- ---- the parties
 
--- what party p gives
-unfoldable pub PartyAt : Contents → List ℕ → Plan → ℕ → List ℕ → Verdict PartyForm → Type 0
-PartyAt files dir plan p name =
+-- what party p gives, where the words of these sessions are numbers
+unfoldable pub PartyAt :
+    Contents → List ℕ → List Bool → Plan → ℕ → List ℕ → Verdict PartyForm → Type 0
+PartyAt files dir numeric plan p name =
     Then (Ends (file_at files dir (file_names.party_file name))) (λ bytes.
-    Ends (verdict_of (party_line (file_names.party_file name)) (party_in plan p bytes)))
+    Ends (verdict_of (party_line (file_names.party_file name)) (party_in numeric plan p bytes)))
 
 -- what the parties of these names give, after those whose files were read
 unfoldable pub PartiesAfter :
-    Contents → List ℕ → Plan → List PartyForm → List (List ℕ) → Verdict (List PartyForm) → Type 0
-PartiesAfter files dir plan before [] = Ends (accepted before)
-PartiesAfter files dir plan before (name ∷ more) =
-    Then (PartyAt files dir plan (length before) name) (λ party.
-    PartiesAfter files dir plan (before ++ (party ∷ [])) more)
+    Contents → List ℕ → List Bool → Plan → List PartyForm → List (List ℕ) → Verdict (List PartyForm) → Type 0
+PartiesAfter files dir numeric plan before [] = Ends (accepted before)
+PartiesAfter files dir numeric plan before (name ∷ more) =
+    Then (PartyAt files dir numeric plan (length before) name) (λ party.
+    PartiesAfter files dir numeric plan (before ++ (party ∷ [])) more)

@@ -11,7 +11,7 @@ use Rattle.party_file.specs.Table.{PartyForm}
 use Rattle.refusal_text.specs.Lines.{name_line}
 use Rattle.job_walk.specs.Names.{job_file}
 use Rattle.job_walk.specs.Verdict.{Verdict, accepted, refused, Ends, Then}
-use Rattle.job_walk.specs.JobOf.{Contents, JobText, StructureOf, SessionsAfter, PlanOf, PartyAt}
+use Rattle.job_walk.specs.JobOf.{Contents, JobText, StructureOf, numeric_sessions, SessionsAfter, PlanOf, PartyAt}
 use Rattle.job_walk.specs.FileLogs.{all_bytes_at}
 
 -- the party of this name
@@ -33,7 +33,8 @@ frames_of true = Short
 frames_of false = Named
 
 -- one party of a job: the names of all, where they are met, the form of their frames, whether each writes its own view,
--- which party it is, the plan, what the party gives, and the digest of the job
+-- which party it is, the plan, whether each session's words are numbers, what the party gives, and the digest of the
+-- job
 pub record NodeForm : Type 0 where
   pub names : List (List ℕ)
   pub hosts : List (List ℕ)
@@ -42,6 +43,7 @@ pub record NodeForm : Type 0 where
   pub view : Bool
   pub me : ℕ
   pub plan : Plan
+  pub numeric : List Bool
   pub given : PartyForm
   pub digest : List ℕ
 
@@ -53,7 +55,7 @@ NodeAt files dir name =
     Then (StructureOf job) (λ groups.
     Then (SessionsAfter files dir job [] job.sessions) (λ sessions.
     Then (PlanOf job (plan_of job.bits groups (keeping sessions))) (λ plan.
-    Then (PartyAt files dir plan me name) (λ given.
+    Then (PartyAt files dir (numeric_sessions job) plan me name) (λ given.
     Ends (accepted (record {
       names = job.names;
       hosts = job.hosts;
@@ -62,6 +64,7 @@ NodeAt files dir name =
       view = job.own_views;
       me = me;
       plan = plan;
+      numeric = numeric_sessions job;
       given = given;
       digest = job_digest files dir job;
     }))))))))

@@ -12,11 +12,12 @@ use Rattle.job_walk.specs.JobOf.{Planned}
 use Rattle.job_walk.specs.NodeOf.{NodeForm, frames_of}
 
 abbrev pub planned_view : code.Planned → Planned
-planned_view p = record { names = p.names; group = p.group; plan = p.plan }
+planned_view p = record { names = p.names; group = p.group; plan = p.plan; numeric = p.numeric.items }
 
 -- a job, and what was read beside it
 abbrev pub planned_with : Job → PlanRest → Planned
-planned_with job rest = record { names = job.names; group = rest.group; plan = rest.plan }
+planned_with job rest =
+    record { names = job.names; group = rest.group; plan = rest.plan; numeric = rest.numeric.items }
 
 -- the bytes of a text, if there is one
 abbrev pub text_view : Option (Bor (List ℕ)) → Option (List ℕ)
@@ -31,6 +32,7 @@ node_view job = record {
   view = job.view;
   me = job.me;
   plan = job.plan;
+  numeric = job.numeric.items;
   given = form_of job.given;
   digest = job.digest;
 }
@@ -45,6 +47,7 @@ node_with job rest = record {
   view = job.own_views;
   me = rest.me;
   plan = rest.plan;
+  numeric = rest.numeric.items;
   given = form_of rest.given;
   digest = rest.digest;
 }

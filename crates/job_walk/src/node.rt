@@ -20,7 +20,7 @@ use crate::Stop;
 use crate::job::read_job_text;
 use crate::party::read_party_file;
 use crate::plan::make_plan;
-use crate::sessions::read_sessions;
+use crate::sessions::{numeric_sessions, read_sessions};
 use crate::stop::refusal;
 use crate::structure::structure_of;
 use frame_code::FrameForm;
@@ -34,7 +34,8 @@ use refusal_text::name_line;
 use std::alloc::Global;
 
 /// What one party needs to run by itself: the names of all parties, where they are met, the form of their frames,
-/// whether each writes its own view, its number, the plan, its own inputs and tapes, and the digest of the job.
+/// whether each writes its own view, its number, the plan, whether the words of each session are numbers, its own
+/// inputs and tapes, and the digest of the job.
 #[derive(Drop)]
 pub struct NodeJob {
     pub names: Names,
@@ -44,6 +45,7 @@ pub struct NodeJob {
     pub view: bool,
     pub me: u32,
     pub plan: Plan,
+    pub numeric: Vec<bool>,
     pub given: PartyData,
     pub digest: [u8; 32],
 }
@@ -75,6 +77,7 @@ pub fn read_node<F: Files>(
     let NodeRest {
         me,
         plan,
+        numeric,
         given,
         digest,
     } = rest;
@@ -86,6 +89,7 @@ pub fn read_node<F: Files>(
         view: own_views,
         me,
         plan,
+        numeric,
         given,
         digest,
     })
@@ -107,6 +111,7 @@ fn frames_of(short: bool) -> FrameForm
 struct NodeRest {
     me: u32,
     plan: Plan,
+    numeric: Vec<bool>,
     given: PartyData,
     digest: [u8; 32],
 }
@@ -132,14 +137,16 @@ fn read_rest<F: Files>(
     ensures fits { IfOk result (λ rest. FitsPlan rest.plan rest.me (form_of rest.given)) }
 {
     let mut log = digest;
+    let numeric = numeric_sessions(alloc, job)?;
     let me = party_of(alloc, &job.names, name)?;
     let groups = structure_of(alloc, job)?;
     let parts = read_sessions(alloc, files, &mut log, dir, job)?;
     let plan = make_plan(alloc, job, &groups, parts)?;
-    let given = read_party_file(alloc, files, dir, &plan, me, name)?;
+    let given = read_party_file(alloc, files, dir, &numeric, &plan, me, name)?;
     Ok(NodeRest {
         me,
         plan,
+        numeric,
         given,
         digest: log.finish(),
     })

@@ -17,24 +17,25 @@ use party_file::{PartyData, read_party};
 use refusal_text::file_key;
 use std::alloc::{AllocError, Global};
 
-/// Reads the file of a party.
+/// Reads the file of a party. `numeric` tells of each session whether its words are numbers.
 pub fn read_party_file<F: Files>(
     alloc: Global,
     files: &mut F,
     dir: &str,
+    numeric: &[bool],
     plan: &Plan,
     p: u32,
     name: &str,
 ) -> Result<PartyData, Stop>
     requires { p < plan.now.parties }
     ensures reads { ReadsAs dir.now (party_file name.now ∷ []) form_of
-        (λ contents. PartyAt contents dir.now plan.now p name.now)
+        (λ contents. PartyAt contents dir.now numeric.now plan.now p name.now)
         (F.reading files.old) (F.reading files.new) result }
     ensures fits { IfOk result (λ party. FitsPlan plan.now p (form_of party)) }
 {
     let file = file_of(alloc, name)?;
     let bytes = read_file(alloc, files, dir, file.as_str())?;
-    party_in(alloc, &bytes, plan, p, file.as_str())
+    party_in(alloc, &bytes, numeric, plan, p, file.as_str())
 }
 
 /// The name of the file of the party of this name.
@@ -49,13 +50,20 @@ fn file_of(alloc: Global, name: &str) -> Result<String, AllocError>
 }
 
 #[tactic(auto, unfolding(refusal_text::specs::Lines::party_line))]
-fn party_in(alloc: Global, bytes: &[u8], plan: &Plan, p: u32, file: &str) -> Result<PartyData, Stop>
+fn party_in(
+    alloc: Global,
+    bytes: &[u8],
+    numeric: &[bool],
+    plan: &Plan,
+    p: u32,
+    file: &str,
+) -> Result<PartyData, Stop>
     requires { p < plan.now.parties }
     ensures walks { WalksAs form_of
-        (Ends (verdict_of (party_line file.now) (party_in plan.now p bytes.now))) result }
+        (Ends (verdict_of (party_line file.now) (party_in numeric.now plan.now p bytes.now))) result }
     ensures fits { IfOk result (λ party. FitsPlan plan.now p (form_of party)) }
 {
-    read_party(alloc, bytes, plan, p).map_err(|fault| stop_of(
+    read_party(alloc, bytes, numeric, plan, p).map_err(|fault| stop_of(
         alloc,
         None,
         &[file_key(file)],

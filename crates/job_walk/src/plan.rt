@@ -18,7 +18,7 @@ use crate::Stop;
 use crate::file_log::NoLog;
 use crate::group::asked_group;
 use crate::job::read_job_text;
-use crate::sessions::read_sessions;
+use crate::sessions::{numeric_sessions, read_sessions};
 use crate::stop::stop_of;
 use crate::structure::structure_of;
 use job_file::Job;
@@ -31,13 +31,15 @@ use product_duty::Duty;
 use share_layout::Layout;
 use std::alloc::Global;
 
-/// What the job's file and the circuits' files give, and the group that is asked for.
+/// What the job's file and the circuits' files give, and the group that is asked for. `numeric` tells of each session
+/// whether its words are numbers.
 #[derive(Drop)]
 pub struct Planned {
     pub names: Names,
     pub group: Option<Group>,
     pub groups: Groups,
     pub plan: Plan,
+    pub numeric: Vec<bool>,
 }
 
 /// Reads the job's file, the group that a text asks for, if there is a text, and the circuits' files.
@@ -62,12 +64,14 @@ pub fn read_planned<F: Files>(
         group,
         groups,
         plan,
+        numeric,
     } = rest;
     Ok(Planned {
         names,
         group,
         groups,
         plan,
+        numeric,
     })
 }
 
@@ -77,6 +81,7 @@ struct PlanRest {
     group: Option<Group>,
     groups: Groups,
     plan: Plan,
+    numeric: Vec<bool>,
 }
 
 // Reads the group that a text asks for, if there is a text, and the circuits' files of a job.
@@ -99,6 +104,7 @@ fn read_rest<F: Files>(
     ensures asked { IfOk result (λ rest. is_some rest.group ≡ is_some asked.entry) }
     ensures groups { IfOk result (λ rest. rest.groups ≡ structure rest.plan) }
 {
+    let numeric = numeric_sessions(alloc, job)?;
     let group = asked_group(alloc, asked, &job.names)?;
     let groups = structure_of(alloc, job)?;
     let parts = read_sessions(alloc, files, &mut NoLog, dir, job)?;
@@ -107,6 +113,7 @@ fn read_rest<F: Files>(
         group,
         groups,
         plan,
+        numeric,
     })
 }
 

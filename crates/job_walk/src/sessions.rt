@@ -5,11 +5,12 @@ ghost use Rattle.circuit_file.specs.CircuitFiles.{circuit_in};
 ghost use Rattle.layer_order.specs.Orders.{ordered};
 ghost use Rattle.session_slots.specs.Carries.{CarriesFit, AllFit};
 ghost use Rattle.session_slots.specs.SoundSessions.{IsSoundSession};
+ghost use Rattle.job_file.specs.declared.layout.SessionLayout.TheVariants.{Numbers};
 ghost use Rattle.job_file.specs.declared.products.Products.TheVariants.{Direct};
 ghost use Rattle.job_file.specs.Jobs.{job_view, session_view, IsJob, IsSession};
-ghost use Rattle.refusal_text.specs.Lines.{circuit_line, expressions_line, session_line};
+ghost use Rattle.refusal_text.specs.Lines.{circuit_line, expressions_line, numbers_line, session_line};
 ghost use Rattle.job_walk.specs.Verdict.{Ends, verdict_of};
-ghost use Rattle.job_walk.specs.JobOf.{owner_of, part_of, with_products, CircuitOf, ExpressionsOf, SessionAt, SessionsAfter};
+ghost use Rattle.job_walk.specs.JobOf.{bits_alone, has_layers, is_numbers, owner_of, part_of, with_products, CircuitOf, ExpressionsOf, ProgramOf, SessionAt, SessionsAfter};
 ghost use Rattle.job_walk.specs.FileLogs.{Logs};
 ghost use Rattle.job_walk.specs.NodeOf.{circuit_files};
 ghost use Rattle.job_walk.specs.Reads.{ReadsAs, WalksAs};
@@ -113,6 +114,7 @@ fn circuit_of(
     match session.layout {
         SessionLayout::Gates(layout) => circuit_of_gates(alloc, bytes, layout, ring, file, s),
         SessionLayout::Expressions => circuit_of_expressions(alloc, bytes, ring, file, s),
+        SessionLayout::Numbers => circuit_of_numbers(alloc, bytes, ring, file, s),
     }
 }
 
@@ -155,6 +157,45 @@ fn circuit_of_expressions(
     ))
 }
 
+fn circuit_of_numbers(
+    alloc: Global,
+    bytes: &[u8],
+    ring: Ring,
+    file: &str,
+    s: u32,
+) -> Result<Circuit, Stop>
+    ensures { WalksAs (λ circuit. circuit) (CircuitOf Numbers file.now s ring bytes.now) result }
+{
+    check_ring(alloc, ring, file, s)?;
+    circuit_of_program(alloc, bytes, file, s)
+}
+
+// Numbers are of bits, so the ring has to be that of one bit.
+#[tactic(auto, unfolding(refusal_text::specs::Lines::circuit_line))]
+fn check_ring(alloc: Global, ring: Ring, file: &str, s: u32) -> Result<(), Stop>
+    ensures { WalksAs (λ passed. passed) (Ends (bits_alone (circuit_line file.now s) ring)) result }
+{
+    if ring.bits() == 1 {
+        return Ok(());
+    }
+    let fault = CircuitFault::WrongRing {
+        bits: i64::from(ring.bits()),
+    };
+    Err(stop_of(alloc, None, &[file_key(file), session_key(s)], &fault))
+}
+
+#[tactic(auto, unfolding(crate::specs::JobOf::ProgramOf, refusal_text::specs::Lines::numbers_line))]
+fn circuit_of_program(alloc: Global, bytes: &[u8], file: &str, s: u32) -> Result<Circuit, Stop>
+    ensures { WalksAs (λ circuit. circuit) (ProgramOf (numbers_line file.now s) bytes.now) result }
+{
+    number_compiler::read(alloc, bytes).map_err(|fault| stop_of(
+        alloc,
+        None,
+        &[file_key(file), session_key(s)],
+        &fault,
+    ))
+}
+
 // The session of a circuit, its gates in layers or not, behind those before it.
 #[tactic(auto, unfolding(refusal_text::specs::Lines::session_line))]
 fn part_of(
@@ -167,13 +208,13 @@ fn part_of(
     requires few { length before.now < MOST_SESSIONS }
     requires session { IsSession (length job.now.names) (length before.now) session.now }
     ensures walks { WalksAs (λ part. part)
-        (Ends (part_of (session_line (length before.now)) (ordered session.now.layered_gates circuit)
+        (Ends (part_of (session_line (length before.now)) (ordered (has_layers (session_view session.now)) circuit)
         session.now.products session.now.owners.items session.now.readers.items before.now)) result }
     ensures sound { IfOk result (IsSoundSession (length job.now.names)) }
     ensures fit { IfOk result (CarriesFit before.now) }
 {
     let _ = job;
-    let circuit = ordered(alloc, circuit, session.layered_gates)?;
+    let circuit = ordered(alloc, circuit, has_layers(session))?;
     let owners = owners_of(alloc, session)?;
     let readers = readers_of(session)?;
     match SessionPart::make(alloc, circuit, owners, readers, before) {
@@ -197,6 +238,32 @@ fn with_products(
         Products::Prepared => part.prepared(alloc),
         Products::Ahead => part.prepared_ahead(alloc),
     }
+}
+
+/// Whether the words of each session are numbers.
+pub(crate) fn numeric_sessions(alloc: Global, job: &Job) -> Result<Vec<bool>, AllocError>
+    ensures { IfOk result (λ numeric. numeric.items
+        ≡ map (λ session. is_numbers session.layout) job.now.sessions.items) }
+{
+    job.sessions
+        .iter()
+        .map(|session| is_numbers(session.layout))
+        .collect(alloc)
+}
+
+fn is_numbers(layout: SessionLayout) -> bool
+    ensures { result ≡ is_numbers layout }
+{
+    match layout {
+        SessionLayout::Numbers => true,
+        SessionLayout::Gates(_) | SessionLayout::Expressions => false,
+    }
+}
+
+fn has_layers(session: &JobSession) -> bool
+    ensures { result ≡ has_layers (session_view session.now) }
+{
+    session.layered_gates || is_numbers(session.layout)
 }
 
 // Who gives an input value.

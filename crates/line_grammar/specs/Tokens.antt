@@ -46,7 +46,7 @@ symbol at c =
     else if nat_eq c 41 then Close
     else Unknown
 
--- the token of a run that is an operator of numbers
+-- the token of a run that is a word of numbers alone; no line has `signed`, which is kept for numbers with a sign
 abbrev pub operator_word : ℕ → List ℕ → Option LineToken
 operator_word at run =
     if bytes_eq run (codes "or") then Some (Infix Or at)
@@ -57,6 +57,7 @@ operator_word at run =
     else if bytes_eq run (codes "if") then Some If
     else if bytes_eq run (codes "then") then Some Then
     else if bytes_eq run (codes "else") then Some Else
+    else if bytes_eq run (codes "signed") then Some Unknown
     else None
 
 -- the token of another run: what a line begins with, or else a name where it has at most 16 bytes

@@ -57,7 +57,7 @@ impl LineToken {
     }
 }
 
-/// The token of a word that is an operator of numbers.
+/// The token of a word of numbers alone. No line has `signed`, which is kept for numbers with a sign.
 pub(crate) fn operator_word(at: usize, word: &[u8]) -> Option<LineToken>
     ensures { result ≡ tokens.operator_word at word.now }
 {
@@ -77,6 +77,8 @@ pub(crate) fn operator_word(at: usize, word: &[u8]) -> Option<LineToken>
         Some(LineToken::Then)
     } else if word == b"else".as_slice() {
         Some(LineToken::Else)
+    } else if word == b"signed".as_slice() {
+        Some(LineToken::Unknown)
     } else {
         None
     }

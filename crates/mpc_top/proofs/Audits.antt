@@ -44,7 +44,7 @@ module _ (dir : List ℕ) where
 
   module _ (planned : code.Planned) (before mid : FilesReading) {xs : List (List ℕ)} (read : ReadsAs dir xs planned_view (λ m. PlanAt m dir None) before mid (Ok planned)) where
     abbrev NamedParties : FilesReading → Result (Vec PartyData Global) Stop → Type 0
-    NamedParties after result = ReadsAs dir (party_files planned.names) parties_view (λ m. PartiesAfter m dir planned.plan [] planned.names) mid after result
+    NamedParties after result = ReadsAs dir (party_files planned.names) parties_view (λ m. PartiesAfter m dir planned.numeric.items planned.plan [] planned.names) mid after result
 
     -- a party's file could not be read
     pub parties_stop : (after : FilesReading) (stop : Stop) → NamedParties after (Err stop) → ReadsAs dir (xs ++ party_files planned.names) as_text (DueOf (audit dir)) before after (Err stop)

@@ -1,5 +1,5 @@
 -- That the view of a tolerated group hides the inputs of all others.
-use Rattle.std.proofs.Common.{ℕ, List, ◌++◌, Option, None, Some, Ok, Vec, sym, subst}
+use Rattle.std.proofs.Common.{ℕ, Bool, List, ◌++◌, Option, None, Some, Ok, Vec, sym, subst}
 use Rattle.std.specs.Prelude.{IfSome}
 use Rattle.std.specs.declared.alloc.Global.{Global}
 use Rattle.outer_io.specs.Files.{FilesReading, Told}
@@ -21,12 +21,12 @@ use Rattle.mpc_top.proofs.Jobs.{job_seen}
 
 module _ (Written : List ℕ → Type 0) where
   -- the text of a run over a whole world hides them
-  hidden : (names : List (List ℕ)) (w : World) (group : Option Members) → IsWhole w → Written (run_text names w group)
-      → Hides (record { names = names; group = group; world = w }) Written
+  hidden : (names : List (List ℕ)) (numeric : List Bool) (w : World) (group : Option Members) → IsWhole w → Written (run_text names numeric w group)
+      → Hides (record { names = names; group = group; numeric = numeric; world = w }) Written
   unfolding run_text
-  hidden names w None whole text = tt
-  hidden names w (Some group) whole text = λ other alike.
-      subst (λ seen. Written (out_text names w ++ view_text names group.mask seen))
+  hidden names numeric w None whole text = tt
+  hidden names numeric w (Some group) whole text = λ other alike.
+      subst (λ seen. Written (out_text names numeric w ++ view_text names group.mask seen))
       (sym (same_view w other group.mask (record { whole = whole; others = alike.inputs; tolerated = alike.tolerated; agree = alike.agree })))
       text
 
@@ -37,6 +37,6 @@ module _ (Written : List ℕ → Type 0) where
 
   pub run_hides : (dir : List ℕ) (workers : ℕ) (asked : Option (List ℕ)) (planned : code.Planned) (parties : Vec PartyData Global) {dir' : List ℕ} {xs : List (List ℕ)} (before after : FilesReading)
       → IsWhole (job_seen planned parties).world → ReadsAs dir' xs (job_seen planned) (λ m. JobAt m dir asked) before after (Ok parties)
-      → Written (run_text planned.names (job_seen planned parties).world planned.group) → CommandHides (Some (run dir workers asked)) before.told Written
+      → Written (run_text planned.names planned.numeric.items (job_seen planned parties).world planned.group) → CommandHides (Some (run dir workers asked)) before.told Written
   run_hides dir workers asked planned parties before after whole read text =
-      told_hides dir workers asked (job_seen planned parties) before.told read.ok (hidden planned.names (job_seen planned parties).world planned.group whole text)
+      told_hides dir workers asked (job_seen planned parties) before.told read.ok (hidden planned.names planned.numeric.items (job_seen planned parties).world planned.group whole text)

@@ -26,12 +26,12 @@ job_stops dir asked before after stop r = reads_stop _ _ planned_view (λ job. j
 module _ (dir : List ℕ) (asked : Option (List ℕ)) (planned : code.Planned) (before mid after : FilesReading) {xs : List (List ℕ)} where
   module _ (read : ReadsAs dir xs planned_view (λ m. PlanAt m dir asked) before mid (Ok planned)) where
     -- a party's file could not be read
-    pub job_stops_later : (stop : Stop) → ReadsAs dir (party_files planned.names) parties_view (λ m. PartiesAfter m dir planned.plan [] planned.names) mid after (Err stop)
+    pub job_stops_later : (stop : Stop) → ReadsAs dir (party_files planned.names) parties_view (λ m. PartiesAfter m dir planned.numeric.items planned.plan [] planned.names) mid after (Err stop)
         → ReadsAs dir (xs ++ party_files planned.names) (job_seen planned) (λ m. JobAt m dir asked) before after (Err stop)
     unfolding JobAt
     job_stops_later stop r = reads_then _ _ planned_view (job_seen planned) before mid after planned (Err stop) read (reads_stop _ _ parties_view (job_seen planned) mid after stop r)
 
-    pub job_read : (parties : Vec PartyData Global) → ReadsAs dir (party_files planned.names) parties_view (λ m. PartiesAfter m dir planned.plan [] planned.names) mid after (Ok parties)
+    pub job_read : (parties : Vec PartyData Global) → ReadsAs dir (party_files planned.names) parties_view (λ m. PartiesAfter m dir planned.numeric.items planned.plan [] planned.names) mid after (Ok parties)
         → ReadsAs dir (xs ++ party_files planned.names) (job_seen planned) (λ m. JobAt m dir asked) before after (Ok parties)
     unfolding JobAt
     job_read parties r =

@@ -31,19 +31,19 @@ pub has_counts : (n : Node) (plan : Plan) → n.world.plan ≡ plan → (links k
     → node_runs.Runs n links kept spawner spawner' outcome → IfOk outcome (HasCountsOf plan)
 has_counts n plan same links kept spawner spawner' outcome run = counted n plan same links kept outcome run.done
 
-module _ (names : List (List ℕ)) (plan : Plan) (me : ℕ) (view : Bool) (outcome : Result Results NodeFault) (out out' : SinkReading) where
+module _ (names : List (List ℕ)) (numeric : List Bool) (plan : Plan) (me : ℕ) (view : Bool) (outcome : Result Results NodeFault) (out out' : SinkReading) where
   -- the talk ended with a fault
-  pub broke : (fault : NodeFault) → outcome ≡ Err fault → out' ≡ out → Written names plan me view outcome out out' (Err (Peer names fault))
-  broke fault is same = subst (λ o. Written names plan me view o out out' (Err (Peer names fault))) (sym is) (refl, same)
+  pub broke : (fault : NodeFault) → outcome ≡ Err fault → out' ≡ out → Written names numeric plan me view outcome out out' (Err (Peer names fault))
+  broke fault is same = subst (λ o. Written names numeric plan me view o out out' (Err (Peer names fault))) (sym is) (refl, same)
 
   module _ (results : Results) (is : outcome ≡ Ok results) where
     -- its lines were written
-    pub written : (u : Unit {0}) → Writes (node_text names plan me view results) out out' (Ok u) → Written names plan me view outcome out out' (Ok u)
-    written u w = subst (λ o. Written names plan me view o out out' (Ok u)) (sym is) w
+    pub written : (u : Unit {0}) → Writes (node_text names numeric plan me view results) out out' (Ok u) → Written names numeric plan me view outcome out out' (Ok u)
+    written u w = subst (λ o. Written names numeric plan me view o out out' (Ok u)) (sym is) w
 
     -- `out` failed to take them
-    pub cut : (failed : Failed) → Writes (node_text names plan me view results) out out' (Err failed) → (result : Result Unit Stop) → IsErrAnd result (λ e. e ≡ Out)
-        → Written names plan me view outcome out out' result
+    pub cut : (failed : Failed) → Writes (node_text names numeric plan me view results) out out' (Err failed) → (result : Result Unit Stop) → IsErrAnd result (λ e. e ≡ Out)
+        → Written names numeric plan me view outcome out out' result
     cut failed w result stops =
         let p = err_from_is_err_and result stops in
-        subst (Written names plan me view outcome out out') (sym p.1) (subst (λ o. Written names plan me view o out out' (Err p.0)) (sym is) (p.2, (failed, w)))
+        subst (Written names numeric plan me view outcome out out') (sym p.1) (subst (λ o. Written names numeric plan me view o out out' (Err p.0)) (sym is) (p.2, (failed, w)))

@@ -1,5 +1,5 @@
 -- A node that was read, and what its talk comes to.
-use Rattle.std.proofs.Common.{◌≡◌, ℕ, ◌-◌, List, Result, Ok, Err, Some, refl, sym, ap, subst, ◌∙◌}
+use Rattle.std.proofs.Common.{◌≡◌, ℕ, ◌-◌, Bool, List, Result, Ok, Err, Some, refl, sym, ap, subst, ◌∙◌}
 use Rattle.std.specs.Prelude.{IsErrOf, IsTrue}
 use Rattle.std.proofs.lemmas.Bool.{false≢true}
 use Rattle.outer_io.specs.Files.{FilesReading}
@@ -184,7 +184,7 @@ module _ (dir name : List ℕ) (files files' : FilesReading) (job : NodeJob) {xs
 
   of_talk : (kept : LinksReading) (outcome : Result Results NodeFault) (result : Result Unit Stop) → net' ≡ record mid { kept = Some kept }
       → ((n : Node) × IsNodeOf (node_part (node_view job)) n) → ((n : Node) → IsNodeOf (node_part (node_view job)) n → node_runs.Runs n (shown links) kept spawner spawner' outcome)
-      → Written job.names job.plan job.me job.view outcome out out' result → RunsWords (Some (node dir name)) before_talk after_talk result
+      → Written job.names job.numeric.items job.plan job.me job.view outcome out out' result → RunsWords (Some (node dir name)) before_talk after_talk result
   of_talk kept (Ok results) (Ok u) back someone run written =
       talk_done dir name files files' job read all before_talk after_talk refl refl
       (net_keeps dir name files files' job read all err err' parties same shown links net mid net' spawner spawner' kept c quiet_net back (Ok results) someone run out out')
@@ -205,7 +205,7 @@ module _ (dir name : List ℕ) (files files' : FilesReading) (job : NodeJob) {xs
       fault (talks dir name files files' job read all err err' parties same shown links net mid net' spawner spawner' kept c quiet_net back (Err fault) someone run out out') written.1)
 
   pub talked : (part : NodePart) → part ≡ node_part (node_view job) → (outcome : Result Results NodeFault) → TalkedOver part (shown links) mid net' spawner spawner' outcome
-      → (result : Result Unit Stop) → Written job.names job.plan job.me job.view outcome out out' result → RunsWords (Some (node dir name)) before_talk after_talk result
-  talked part is outcome t result written =
+      → (numeric : List Bool) → numeric ≡ job.numeric.items → (result : Result Unit Stop) → Written job.names numeric job.plan job.me job.view outcome out out' result → RunsWords (Some (node dir name)) before_talk after_talk result
+  talked part is outcome t numeric same result written =
       let own = subst (λ s. TalkedOver s (shown links) mid net' spawner spawner' outcome) is t in
-      of_talk own.kept outcome result own.has_back own.someone own.run written
+      of_talk own.kept outcome result own.has_back own.someone own.run (subst (λ ns. Written job.names ns job.plan job.me job.view outcome out out' result) same written)

@@ -41,7 +41,7 @@ module _ (dir group : List ℕ) where
 
   module _ (planned : code.Planned) (before mid : FilesReading) {xs : List (List ℕ)} (read : ReadsAs dir xs planned_view (λ m. PlanAt m dir (Some group)) before mid (Ok planned)) where
     abbrev NamedParties : FilesReading → Result (Vec PartyData Global) Stop → Type 0
-    NamedParties after result = ReadsAs dir (party_files planned.names) parties_view (λ m. PartiesAfter m dir planned.plan [] planned.names) mid after result
+    NamedParties after result = ReadsAs dir (party_files planned.names) parties_view (λ m. PartiesAfter m dir planned.numeric.items planned.plan [] planned.names) mid after result
 
     -- a party's file could not be read
     pub parties_stop : (after : FilesReading) (stop : Stop) → NamedParties after (Err stop) → ReadsAs dir (xs ++ party_files planned.names) as_text (DueOf (pair dir group)) before after (Err stop)
@@ -54,11 +54,11 @@ module _ (dir group : List ℕ) where
       all_files = (xs ++ party_files planned.names) ++ (other_file ∷ [])
 
       abbrev ReadsOther : FilesReading → Result (List (List (List ℕ))) Stop → Type 0
-      ReadsOther last result = ReadsAs dir (other_file ∷ []) (λ (other : List (List (List ℕ))). other) (λ m. OtherAt m dir planned.plan planned.names inputs) after last result
+      ReadsOther last result = ReadsAs dir (other_file ∷ []) (λ (other : List (List (List ℕ))). other) (λ m. OtherAt m dir planned.numeric.items planned.plan planned.names inputs) after last result
 
       own_inputs : (last : FilesReading) (result : Result (List (List (List ℕ))) Stop) → ReadsOther last result
-          → ReadsAs dir (other_file ∷ []) (λ (other : List (List (List ℕ))). other) (λ m. OtherAt m dir planned.plan planned.names (job_seen planned parties).world.inputs) after last result
-      own_inputs last result r = subst (λ given. ReadsAs dir (other_file ∷ []) (λ (other : List (List (List ℕ))). other) (λ m. OtherAt m dir planned.plan planned.names given) after last result) are r
+          → ReadsAs dir (other_file ∷ []) (λ (other : List (List (List ℕ))). other) (λ m. OtherAt m dir planned.numeric.items planned.plan planned.names (job_seen planned parties).world.inputs) after last result
+      own_inputs last result r = subst (λ given. ReadsAs dir (other_file ∷ []) (λ (other : List (List (List ℕ))). other) (λ m. OtherAt m dir planned.numeric.items planned.plan planned.names given) after last result) are r
 
       -- the other inputs could not be read
       pub other_stops : (last : FilesReading) (stop : Stop) → ReadsOther last (Err stop) → ReadsAs dir all_files as_text (DueOf (pair dir group)) before last (Err stop)
@@ -86,23 +86,23 @@ module _ (dir group : List ℕ) where
 
           -- the text of a pair that was read
           pub text_read : (c : C) → WalksAs (λ (c : C). job) (Ends (hidden_of (job_seen planned parties) other)) (Ok c)
-              → ReadsAs dir all_files as_text (DueOf (pair dir group)) before last (Ok (pair_text job.names job.first (second_of job) job.group))
+              → ReadsAs dir all_files as_text (DueOf (pair dir group)) before last (Ok (pair_text job.names job.numeric job.first (second_of job) job.group))
           unfolding DueOf
           text_read c w =
-              let text = pair_text job.names job.first (second_of job) job.group in
+              let text = pair_text job.names job.numeric job.first (second_of job) job.group in
               reads_on _ _ (λ (c : C). job) as_text before last last c (Ok text) (pair_read (Ok c) w) (reads_end as_text last text)
 
 module _ (Written : List ℕ → Type 0) where
   -- the group sees the same twice
-  twice : (job : PairedJob) → CanHide job.first job.other job.group → Written (pair_text job.names job.first (second_of job) job.group) → Written (same_seen job)
+  twice : (job : PairedJob) → CanHide job.first job.other job.group → Written (pair_text job.names job.numeric job.first (second_of job) job.group) → Written (same_seen job)
   unfolding pair_text
   twice job can text =
-      subst (λ seen. Written (pair_seen job.names job.first (second_of job) job.group (view job.first job.group) seen)) (same_view job.first job.other job.group can) text
+      subst (λ seen. Written (pair_seen job.names job.numeric job.first (second_of job) job.group (view job.first job.group) seen)) (same_view job.first job.other job.group can) text
 
   told_hides : (dir group : List ℕ) (job : PairedJob) (told : Told) → IfSome told (λ m. PairAt m dir group (accepted job)) → HidesPair job Written → CommandHides (Some (pair dir group)) told Written
   told_hides dir group paired None is hides = tt
   told_hides dir group paired (Some files) is hides = (paired, is, hides)
 
   pub pair_hides : {C : Type 0} (dir group : List ℕ) (job : PairedJob) {xs : List (List ℕ)} (before after : FilesReading) (c : C) → ReadsAs dir xs (λ (c : C). job) (λ m. PairAt m dir group) before after (Ok c)
-      → CanHide job.first job.other job.group → Written (pair_text job.names job.first (second_of job) job.group) → CommandHides (Some (pair dir group)) before.told Written
+      → CanHide job.first job.other job.group → Written (pair_text job.names job.numeric job.first (second_of job) job.group) → CommandHides (Some (pair dir group)) before.told Written
   pair_hides dir group job before after c read can text = told_hides dir group job before.told read.ok (record { can = can; same = twice job can text })

@@ -1,5 +1,5 @@
 -- How the parties' files are read one after another.
-use Rattle.std.proofs.Common.{◌≡◌, ℕ, ◌<◌, ◌≤◌, ◌+◌, List, [], ◌∷◌, ◌++◌, length, drop, map, get_or, Result, Ok, Err, Vec, suc, refl, sym, ap, ◌∙◌, subst}
+use Rattle.std.proofs.Common.{◌≡◌, ℕ, ◌<◌, ◌≤◌, ◌+◌, Bool, List, [], ◌∷◌, ◌++◌, length, drop, map, get_or, Result, Ok, Err, Vec, suc, refl, sym, ap, ◌∙◌, subst}
 use Rattle.std.specs.Prelude.{IsErrAnd}
 use Rattle.job_run.specs.Parties.{AllFit}
 use Rattle.std.specs.declared.alloc.Global.{Global}
@@ -17,9 +17,9 @@ use Rattle.job_walk.proofs.Steps.{reads_exit, reads_then, reads_end}
 use Rattle.job_walk.proofs.Equal.{left_of, none_left}
 use Rattle.mpc_top.specs.Seen.{parties_view}
 
-module _ (dir : List ℕ) (plan : Plan) (names : List (List ℕ)) (p : ℕ) (before : FilesReading) (result : Result (Vec PartyData Global) Stop) where
+module _ (dir : List ℕ) (numeric : List Bool) (plan : Plan) (names : List (List ℕ)) (p : ℕ) (before : FilesReading) (result : Result (Vec PartyData Global) Stop) where
   abbrev ReadsNames : List PartyForm → List (List ℕ) → FilesReading → FilesReading → Type 0
-  ReadsNames parties names before after = ReadsAs dir (party_files names) parties_view (λ m. PartiesAfter m dir plan parties names) before after result
+  ReadsNames parties names before after = ReadsAs dir (party_files names) parties_view (λ m. PartiesAfter m dir numeric plan parties names) before after result
 
   abbrev PartiesRest : List PartyForm → ℕ → FilesReading → FilesReading → Type 0
   PartiesRest parties p before after = ReadsNames parties (drop p (map (λ (name : List ℕ). name) names)) before after
@@ -32,22 +32,29 @@ module _ (dir : List ℕ) (plan : Plan) (names : List (List ℕ)) (p : ℕ) (bef
     on_names : (after : FilesReading) → ReadsNames parties (name ∷ drop (p + 1) (map (λ (name : List ℕ). name) names)) before after → PartiesRest parties p before after
     on_names after r = subst (λ xs. ReadsNames parties xs before after) (sym (left_of (λ (name : List ℕ). name) names p [] l ∙ ap (λ x. x ∷ drop (p + 1) (map (λ (name : List ℕ). name) names)) (sym is))) r
 
-    pub party_next : (mid after : FilesReading) (party : PartyData) → ReadsAs dir (party_file name ∷ []) form_of (λ m. PartyAt m dir plan p name) before mid (Ok party)
+    -- the file of the party, whose sessions are as the code found them
+    abbrev ReadsParty : List Bool → FilesReading → Result PartyData Stop → Type 0
+    ReadsParty found after read = ReadsAs dir (party_file name ∷ []) form_of (λ m. PartyAt m dir found plan p name) before after read
+
+    at_count : (found : List Bool) → found ≡ numeric → (after : FilesReading) (read : Result PartyData Stop) → ReadsParty found after read
+        → ReadsAs dir (party_file name ∷ []) form_of (λ m. PartyAt m dir numeric plan (length parties) name) before after read
+    at_count found same after read r =
+        subst (λ k. ReadsAs dir (party_file name ∷ []) form_of (λ m. PartyAt m dir numeric plan k name) before after read) (sym count) (subst (λ ns. ReadsParty ns after read) same r)
+
+    pub party_next : (found : List Bool) → found ≡ numeric → (mid after : FilesReading) (party : PartyData) → ReadsParty found mid (Ok party)
         → PartiesRest (parties ++ form_of party ∷ []) (p + 1) mid after → PartiesRest parties p before after
     unfolding PartiesAfter
-    party_next mid after party r rest =
-        on_names after (reads_then _ _ _ _ before mid after party result (subst (λ k. ReadsAs dir (party_file name ∷ []) form_of (λ m. PartyAt m dir plan k name) before mid (Ok party)) (sym count) r) rest)
+    party_next found same mid after party r rest = on_names after (reads_then _ _ _ _ before mid after party result (at_count found same mid (Ok party) r) rest)
 
-    pub party_stops : (after : FilesReading) (stop : Stop) → IsErrAnd result (λ e. e ≡ stop) → ReadsAs dir (party_file name ∷ []) form_of (λ m. PartyAt m dir plan p name) before after (Err stop) → PartiesRest parties p before after
+    pub party_stops : (found : List Bool) → found ≡ numeric → (after : FilesReading) (stop : Stop) → IsErrAnd result (λ e. e ≡ stop) → ReadsParty found after (Err stop) → PartiesRest parties p before after
     unfolding PartiesAfter
-    party_stops after stop err r =
-        on_names after (reads_exit _ _ _ _ _ before after stop result err (subst (λ k. ReadsAs dir (party_file name ∷ []) form_of (λ m. PartyAt m dir plan k name) before after (Err stop)) (sym count) r))
+    party_stops found same after stop err r = on_names after (reads_exit _ _ _ _ _ before after stop result err (at_count found same after (Err stop) r))
 
-pub parties_end : (dir : List ℕ) (plan : Plan) (names : List (List ℕ)) (p : ℕ) (now : FilesReading) (parties : Vec PartyData Global) → length names ≤ p
-    → ReadsAs dir (party_files (drop p (map (λ (name : List ℕ). name) names))) parties_view (λ m. PartiesAfter m dir plan (parties_view parties) (drop p (map (λ (name : List ℕ). name) names))) now now (Ok parties)
+pub parties_end : (dir : List ℕ) (numeric : List Bool) (plan : Plan) (names : List (List ℕ)) (p : ℕ) (now : FilesReading) (parties : Vec PartyData Global) → length names ≤ p
+    → ReadsAs dir (party_files (drop p (map (λ (name : List ℕ). name) names))) parties_view (λ m. PartiesAfter m dir numeric plan (parties_view parties) (drop p (map (λ (name : List ℕ). name) names))) now now (Ok parties)
 unfolding PartiesAfter
-parties_end dir plan names p now parties all =
-    subst (λ xs. ReadsAs dir (party_files xs) parties_view (λ m. PartiesAfter m dir plan (parties_view parties) xs) now now (Ok parties)) (sym (none_left (λ (name : List ℕ). name) names p all)) (reads_end parties_view now parties)
+parties_end dir numeric plan names p now parties all =
+    subst (λ xs. ReadsAs dir (party_files xs) parties_view (λ m. PartiesAfter m dir numeric plan (parties_view parties) xs) now now (Ok parties)) (sym (none_left (λ (name : List ℕ). name) names p all)) (reads_end parties_view now parties)
 
 pub same_names : (names : List (List ℕ)) → map (λ (name : List ℕ). name) names ≡ names
 same_names [] = refl

@@ -125,16 +125,16 @@ module _ (command : CommandForm) (files files' : FilesReading) (out out' : SinkR
 -- ---- what is read for each command
 
 module _ (dir : List ℕ) (workers : ℕ) (view : Option (List ℕ)) (planned : code.Planned) (before mid after : FilesReading) {xs : List (List ℕ)} (read : ReadsAs dir xs planned_view (λ m. PlanAt m dir view) before mid (Ok planned)) where
-  pub run_stops_later : (stop : Stop) → ReadsAs dir (party_files planned.names) parties_view (λ m. PartiesAfter m dir planned.plan [] planned.names) mid after (Err stop)
+  pub run_stops_later : (stop : Stop) → ReadsAs dir (party_files planned.names) parties_view (λ m. PartiesAfter m dir planned.numeric.items planned.plan [] planned.names) mid after (Err stop)
       → ReadsAs dir (xs ++ party_files planned.names) as_text (DueOf (run dir workers view)) before after (Err stop)
   unfolding DueOf
   run_stops_later stop r = reads_stop _ _ (job_seen planned) as_text before after stop (job_stops_later dir view planned before mid after read stop r)
 
-  pub run_read : (parties : Vec PartyData Global) → ReadsAs dir (party_files planned.names) parties_view (λ m. PartiesAfter m dir planned.plan [] planned.names) mid after (Ok parties)
-      → ReadsAs dir (xs ++ party_files planned.names) as_text (DueOf (run dir workers view)) before after (Ok (run_text planned.names (world_of planned.plan (parties_view parties)) planned.group))
+  pub run_read : (parties : Vec PartyData Global) → ReadsAs dir (party_files planned.names) parties_view (λ m. PartiesAfter m dir planned.numeric.items planned.plan [] planned.names) mid after (Ok parties)
+      → ReadsAs dir (xs ++ party_files planned.names) as_text (DueOf (run dir workers view)) before after (Ok (run_text planned.names planned.numeric.items (world_of planned.plan (parties_view parties)) planned.group))
   unfolding DueOf
   run_read parties r =
-      let due = run_text planned.names (world_of planned.plan (parties_view parties)) planned.group in
+      let due = run_text planned.names planned.numeric.items (world_of planned.plan (parties_view parties)) planned.group in
       reads_on _ _ (job_seen planned) as_text before after after parties (Ok due) (job_read dir view planned before mid after read parties r) (reads_end as_text after due)
 
 module _ (dir : List ℕ) (before after : FilesReading) {xs : List (List ℕ)} where

@@ -6,6 +6,9 @@ use Rattle.outer_io.specs.Files.{Told}
 use Rattle.party_set.specs.Parties.{Structure, Members, IsQ2, covers}
 use Rattle.party_names.specs.Names.{AreNames}
 use Rattle.group_formula.proofs.OneAnswer.{one_answer}
+use Rattle.number_circuit.specs.declared.fault.NumberFault.{NumberFault}
+use Rattle.number_circuit.proofs.OneAnswer.{one_answer as one_number_program}
+use Rattle.number_compiler.specs.Circuits.{has_large_circuit, circuit as circuit_of_numbers}
 use Rattle.expr_circuit.specs.declared.fault.ExprFault.{ExprFault}
 use Rattle.expr_circuit.specs.Circuits.{circuit}
 use Rattle.expr_circuit.proofs.OneAnswer.{one_answer as one_program_only}
@@ -19,7 +22,7 @@ use Rattle.plan_model.specs.declared.key.Key.{Key}
 use Rattle.plan_faults.specs.declared.plan_fault.PlanFault.TheVariants.{TooManyMessages, TooManyWords}
 use Rattle.job_file.specs.Forms.{JobForm, SessionForm, AdversaryForm, by_formula, by_list}
 use Rattle.job_file.specs.declared.layout.SessionLayout.{SessionLayout}
-use Rattle.job_file.specs.declared.layout.SessionLayout.TheVariants.{Gates, Expressions}
+use Rattle.job_file.specs.declared.layout.SessionLayout.TheVariants.{Gates, Expressions, Numbers}
 use Rattle.party_file.specs.Table.{PartyForm}
 use Rattle.command_words.specs.Commands.{CommandForm, run, check, pair, node, sample, audit}
 use Rattle.share_world.specs.Worlds.{view}
@@ -29,7 +32,7 @@ use Rattle.view_check.proofs.ViewLaws.{wrong_words}
 use Rattle.view_check.proofs.ToldViews.{told_views}
 use Rattle.refusal_text.specs.Lines.{formula_line, covering_line, plan_line, view_line}
 use Rattle.job_walk.specs.Verdict.{Verdict, accepted, missing, refused, Ends, Then}
-use Rattle.job_walk.specs.JobOf.{Contents, JobText, GroupOf, FormulaOf, GroupsOf, Q2Of, StructureOf, ExpressionsOf, CircuitOf, SessionAt, SessionsAfter, PlanOf, PlannedOf, PlanAt, PartyAt, PartiesAfter}
+use Rattle.job_walk.specs.JobOf.{Contents, JobText, GroupOf, FormulaOf, GroupsOf, Q2Of, StructureOf, numeric_sessions, ExpressionsOf, ProgramOf, CircuitOf, SessionAt, SessionsAfter, PlanOf, PlannedOf, PlanAt, PartyAt, PartiesAfter}
 use Rattle.job_walk.specs.NodeOf.{NodeAt}
 use Rattle.mpc_top.specs.Texts.{usage_text}
 use Rattle.mpc_top.specs.WholeJobs.{JobAt, OtherAt, PairAt}
@@ -164,10 +167,18 @@ expressions_end line bits text = elim (one_program_only bits text).some [
   | inr fault ↦ (refused 3 (line fault.0), (fault.0, fault.1, refl, refl))
 ]
 
+program_ends : (line : NumberFault → List ℕ) (text : List ℕ) → EndsSomehow (ProgramOf line text)
+unfolding ProgramOf
+program_ends line text = elim (one_number_program has_large_circuit text).some [
+  | inl p ↦ (accepted (circuit_of_numbers p.0), record { program = p.0; is = p.1; made = refl })
+  | inr fault ↦ (refused 3 (line fault.0), (fault.0, fault.1, refl, refl))
+]
+
 circuit_ends : (layout : SessionLayout) (file : List ℕ) (s bits : ℕ) (bytes : List ℕ) → EndsSomehow (CircuitOf layout file s bits bytes)
 unfolding CircuitOf
 circuit_ends (Gates layout) file s bits bytes = ends _
 circuit_ends Expressions file s bits bytes = expressions_end _ bits bytes
+circuit_ends Numbers file s bits bytes = then_ends _ _ (ends _) (λ passed is. program_ends _ bytes)
 
 session_ends : (files : Contents) (dir : List ℕ) (job : JobForm) (before : List Session) (form : SessionForm) → EndsSomehow (SessionAt files dir job before form)
 unfolding SessionAt
@@ -217,35 +228,35 @@ plan_at_ends files dir asked =
 
 -- ---- the parties
 
-party_ends : (files : Contents) (dir : List ℕ) (plan : Plan) (p : ℕ) (name : List ℕ) → EndsSomehow (PartyAt files dir plan p name)
+party_ends : (files : Contents) (dir : List ℕ) (numeric : List Bool) (plan : Plan) (p : ℕ) (name : List ℕ) → EndsSomehow (PartyAt files dir numeric plan p name)
 unfolding PartyAt
-party_ends files dir plan p name = then_ends _ _ (ends _) (λ bytes is. ends _)
+party_ends files dir numeric plan p name = then_ends _ _ (ends _) (λ bytes is. ends _)
 
-parties_end : (files : Contents) (dir : List ℕ) (plan : Plan) (before : List PartyForm) (names : List (List ℕ)) → EndsSomehow (PartiesAfter files dir plan before names)
+parties_end : (files : Contents) (dir : List ℕ) (numeric : List Bool) (plan : Plan) (before : List PartyForm) (names : List (List ℕ)) → EndsSomehow (PartiesAfter files dir numeric plan before names)
 unfolding PartiesAfter
-parties_end files dir plan before [] = ends _
-parties_end files dir plan before (name ∷ names) = then_ends _ _ (party_ends files dir plan (length before) name) (λ party is. parties_end files dir plan (before ++ (party ∷ [])) names)
+parties_end files dir numeric plan before [] = ends _
+parties_end files dir numeric plan before (name ∷ names) = then_ends _ _ (party_ends files dir numeric plan (length before) name) (λ party is. parties_end files dir numeric plan (before ++ (party ∷ [])) names)
 
 job_ends : (files : Contents) (dir : List ℕ) (asked : Option (List ℕ)) → EndsSomehow (JobAt files dir asked)
 unfolding JobAt
-job_ends files dir asked = then_ends _ _ (plan_at_ends files dir asked) (λ planned is. then_ends _ _ (parties_end files dir planned.plan [] planned.names) (λ parties read. ends _))
+job_ends files dir asked = then_ends _ _ (plan_at_ends files dir asked) (λ planned is. then_ends _ _ (parties_end files dir planned.numeric planned.plan [] planned.names) (λ parties read. ends _))
 
 -- ---- the commands
 
-other_ends : (files : Contents) (dir : List ℕ) (plan : Plan) (names : List (List ℕ)) (inputs : List (List (List ℕ))) → EndsSomehow (OtherAt files dir plan names inputs)
+other_ends : (files : Contents) (dir : List ℕ) (numeric : List Bool) (plan : Plan) (names : List (List ℕ)) (inputs : List (List (List ℕ))) → EndsSomehow (OtherAt files dir numeric plan names inputs)
 unfolding OtherAt
-other_ends files dir plan names inputs = then_ends _ _ (ends _) (λ bytes is. ends _)
+other_ends files dir numeric plan names inputs = then_ends _ _ (ends _) (λ bytes is. ends _)
 
 pair_ends : (files : Contents) (dir asked : List ℕ) → EndsSomehow (PairAt files dir asked)
 unfolding PairAt
-pair_ends files dir asked = then_ends _ _ (job_ends files dir (Some asked)) (λ job is. then_ends _ _ (other_ends files dir job.world.plan job.names job.world.inputs) (λ other read. ends _))
+pair_ends files dir asked = then_ends _ _ (job_ends files dir (Some asked)) (λ job is. then_ends _ _ (other_ends files dir job.numeric job.world.plan job.names job.world.inputs) (λ other read. ends _))
 
 node_ends : (files : Contents) (dir name : List ℕ) → EndsSomehow (NodeAt files dir name)
 unfolding NodeAt
 node_ends files dir name =
     then_ends _ _ (text_ends true files dir) (λ job is. then_ends _ _ (ends _) (λ me named. then_ends _ _ (structure_ends job) (λ groups found.
     then_ends _ _ (sessions_end files dir job [] job.sessions) (λ sessions read. then_ends _ _ (plan_ends job _) (λ plan within.
-    then_ends _ _ (party_ends files dir plan me name) (λ given gives. ends _))))))
+    then_ends _ _ (party_ends files dir (numeric_sessions job) plan me name) (λ given gives. ends _))))))
 
 judged_ends : (names : List (List ℕ)) (see : ℕ → List (Key × ℕ)) (text : List ℕ) → AreNames names → AreTold names see → EndsSomehow (Judged names see text)
 judged_ends names see text are told = elim (one_view_only names see text are told).0 [

@@ -20,6 +20,7 @@ use Rattle.circuit_file.specs.CircuitFiles.{circuit_in}
 use Rattle.circuit_file.proofs.FileLaws.{file_grounded}
 use Rattle.layer_order.specs.Orders.{ordered}
 use Rattle.layer_order.proofs.SortedGates.{ordered_valid}
+use Rattle.number_compiler.proofs.ValidCircuits.{compiled_right}
 use Rattle.expr_circuit.proofs.ValidPrograms.{valid_program}
 use Rattle.maximal_groups.specs.Families.{IsFamily, maximal_structure}
 use Rattle.maximal_groups.proofs.FoundGroups.{antichain}
@@ -48,7 +49,7 @@ use Rattle.plan_model.specs.Tallies.{tape_length}
 use Rattle.job_file.specs.Forms.{JobForm, SessionForm, AdversaryForm, by_formula, by_list}
 use Rattle.job_file.specs.Faults.{job_in}
 use Rattle.job_file.specs.declared.layout.SessionLayout.{SessionLayout}
-use Rattle.job_file.specs.declared.layout.SessionLayout.TheVariants.{Gates, Expressions}
+use Rattle.job_file.specs.declared.layout.SessionLayout.TheVariants.{Gates, Expressions, Numbers}
 use Rattle.job_file.specs.Owners.{IsOwner}
 use Rattle.job_file.specs.Products.{are_prepared, come_ahead}
 use Rattle.job_laws.specs.Documents.{AreSessionForms, IsSessionForm, IsJobForm}
@@ -62,7 +63,7 @@ use Rattle.job_run.specs.Parties.{world_of}
 use Rattle.mpc_top.specs.WholeJobs.{WholeJob, whole_job, JobAt}
 use Rattle.job_walk.specs.Verdict.{accepted, refused, Then, verdict_of, unless}
 use Rattle.job_walk.proofs.CarriedValues.{fit_push, owners_among, owners_earlier}
-use Rattle.job_walk.specs.JobOf.{Contents, FormulaOf, few_groups, groups_of, GroupsOf, Q2Of, StructureOf, groups_in, owner_of, part_of, with_products, CircuitOf, ExpressionsOf, SessionAt, SessionsAfter, PlanOf, Planned, PlannedOf, JobText, PlanAt, PartyAt, PartiesAfter}
+use Rattle.job_walk.specs.JobOf.{has_layers, Contents, FormulaOf, few_groups, groups_of, GroupsOf, Q2Of, StructureOf, groups_in, numeric_sessions, owner_of, part_of, with_products, CircuitOf, ExpressionsOf, ProgramOf, SessionAt, SessionsAfter, PlanOf, Planned, PlannedOf, JobText, PlanAt, PartyAt, PartiesAfter}
 
 -- ---- verdicts
 
@@ -83,19 +84,19 @@ was_none (Some f) line a b e = cc
 
 -- ---- what the parties give
 
-fits_fields : (plan : Plan) (p : ℕ) (form : PartyForm) (d : Option Fields) → party_in_fields plan p d ≡ Ok form → FitsPlan plan p form
-fits_fields plan p form None e = cc
-fits_fields plan p form (Some fields) e =
-    let both = or_fault-ok (first_fault (party_checks plan p fields)) (party_given plan p fields) form (sym e) in
-    party-fits plan p fields form both.0 both.1
+fits_fields : (numeric : List Bool) (plan : Plan) (p : ℕ) (form : PartyForm) (d : Option Fields) → party_in_fields numeric plan p d ≡ Ok form → FitsPlan plan p form
+fits_fields numeric plan p form None e = cc
+fits_fields numeric plan p form (Some fields) e =
+    let both = or_fault-ok (first_fault (party_checks numeric plan p fields)) (party_given numeric plan p fields) form (sym e) in
+    party-fits numeric plan p fields form both.0 both.1
 
-fits_bytes : (plan : Plan) (p : ℕ) (bytes : List ℕ) (form : PartyForm) → party_in plan p bytes ≡ Ok form → FitsPlan plan p form
+fits_bytes : (numeric : List Bool) (plan : Plan) (p : ℕ) (bytes : List ℕ) (form : PartyForm) → party_in numeric plan p bytes ≡ Ok form → FitsPlan plan p form
 unfolding party_in
-fits_bytes plan p bytes form e = fits_fields plan p form (document_of bytes) e
+fits_bytes numeric plan p bytes form e = fits_fields numeric plan p form (document_of bytes) e
 
-pub party_fits : (files : Contents) (dir : List ℕ) (plan : Plan) (p : ℕ) (name : List ℕ) (form : PartyForm) → PartyAt files dir plan p name (accepted form) → FitsPlan plan p form
+pub party_fits : (files : Contents) (dir : List ℕ) (numeric : List Bool) (plan : Plan) (p : ℕ) (name : List ℕ) (form : PartyForm) → PartyAt files dir numeric plan p name (accepted form) → FitsPlan plan p form
 unfolding PartyAt Then
-party_fits files dir plan p name form (bytes, there, e) = fits_bytes plan p bytes form (was_ok _ (party_in plan p bytes) form e)
+party_fits files dir numeric plan p name form (bytes, there, e) = fits_bytes numeric plan p bytes form (was_ok _ (party_in numeric plan p bytes) form e)
 
 abbrev pub no_form : PartyForm
 no_form = record { inputs = []; tapes = [] }
@@ -112,14 +113,14 @@ fitting_push plan forms form each last p l = elim (cases_lt p (length forms)) [
       subst (FitsPlan plan p) (sym (get_or_push forms form no_form p same)) (subst (λ n. FitsPlan plan n form) same last)
 ]
 
-parties_fit : (files : Contents) (dir : List ℕ) (plan : Plan) (before : List PartyForm) (names : List (List ℕ)) (forms : List PartyForm) → Fitting plan before
-    → PartiesAfter files dir plan before names (accepted forms) → Fitting plan forms × (length forms ≡ length before + length names)
+parties_fit : (files : Contents) (dir : List ℕ) (numeric : List Bool) (plan : Plan) (before : List PartyForm) (names : List (List ℕ)) (forms : List PartyForm) → Fitting plan before
+    → PartiesAfter files dir numeric plan before names (accepted forms) → Fitting plan forms × (length forms ≡ length before + length names)
 unfolding PartiesAfter Then
-parties_fit files dir plan before [] forms each e =
+parties_fit files dir numeric plan before [] forms each e =
     let same : forms ≡ before = accepted_is forms before e in
     (subst (Fitting plan) (sym same) each, ap length same ∙ omega arith)
-parties_fit files dir plan before (name ∷ more) forms each (party, at, rest) =
-    let next = parties_fit files dir plan (before ++ party ∷ []) more forms (fitting_push plan before party each (party_fits files dir plan (length before) name party at)) rest in
+parties_fit files dir numeric plan before (name ∷ more) forms each (party, at, rest) =
+    let next = parties_fit files dir numeric plan (before ++ party ∷ []) more forms (fitting_push plan before party each (party_fits files dir numeric plan (length before) name party at)) rest in
     (next.0, omega (arith, next.1, length-append before (party ∷ [])))
 
 -- ---- their world
@@ -188,10 +189,10 @@ module _ (plan : Plan) (forms : List PartyForm) (count : length forms ≡ plan.p
   pub whole_world : IsSound plan → IsWhole (world_of plan forms)
   whole_world sound = record { sound = sound; inputs = are_inputs; tapes = record { parties = many_tapes; lengths = tape_long; below = small } }
 
-pub parties_make_whole : (files : Contents) (dir : List ℕ) (plan : Plan) (names : List (List ℕ)) (forms : List PartyForm) → IsSound plan → length names ≡ plan.parties
-    → PartiesAfter files dir plan [] names (accepted forms) → IsWhole (world_of plan forms)
-parties_make_whole files dir plan names forms sound named is =
-    let fit = parties_fit files dir plan [] names forms (λ p l. absurd (omega (arith, l))) is in
+pub parties_make_whole : (files : Contents) (dir : List ℕ) (numeric : List Bool) (plan : Plan) (names : List (List ℕ)) (forms : List PartyForm) → IsSound plan → length names ≡ plan.parties
+    → PartiesAfter files dir numeric plan [] names (accepted forms) → IsWhole (world_of plan forms)
+parties_make_whole files dir numeric plan names forms sound named is =
+    let fit = parties_fit files dir numeric plan [] names forms (λ p l. absurd (omega (arith, l))) is in
     whole_world plan forms (omega (arith, fit.1, named)) fit.0 sound
 
 -- ---- the structure
@@ -270,17 +271,18 @@ part_fits n adversary line c before form s valid named e =
     )
 
 pub circuit_is_valid : (layout : SessionLayout) (file : List ℕ) (s bits : ℕ) (bytes : List ℕ) (c : Netlist) → 0 < bits → bits ≤ 64 → CircuitOf layout file s bits bytes (accepted c) → IsCircuit c
-unfolding CircuitOf ExpressionsOf
+unfolding CircuitOf ExpressionsOf ProgramOf Then
 circuit_is_valid (Gates layout) file s bits bytes c some few read = (file_grounded layout bits bytes c some few (was_ok _ (circuit_in layout bits bytes) c read)).valid
 circuit_is_valid Expressions file s bits bytes c some few read = subst IsCircuit (sym read.made) (valid_program bits bytes read.program read.is some few)
+circuit_is_valid Numbers file s bits bytes c some few (passed, alone, read) = subst IsCircuit (sym read.made) (compiled_right read.program read.is.small).valid
 
 module _ (files : Contents) (dir : List ℕ) (job : JobForm) (some : 0 < job.bits) (few : job.bits ≤ 64) where
   session_fits : (before : List Session) (form : SessionForm) (x : Session) → IsSessionForm (length job.names) job.adversary (length before) form → SessionAt files dir job before form (accepted x)
       → IsSoundSession (length job.names) x × CarriesFit before x
   unfolding SessionAt Then
   session_fits before at x named (bytes, there, (c, read, e)) =
-      part_fits (length job.names) job.adversary _ (ordered at.layered_gates c) before at x
-      (ordered_valid at.layered_gates c (circuit_is_valid at.layout at.circuit (length before) job.bits bytes c some few read)) named e
+      part_fits (length job.names) job.adversary _ (ordered (has_layers at) c) before at x
+      (ordered_valid (has_layers at) c (circuit_is_valid at.layout at.circuit (length before) job.bits bytes c some few read)) named e
 
   -- each session is sound
   abbrev AreSound : List Session → Type 0
@@ -349,8 +351,8 @@ sound_plan : {node : Bool} (files : Contents) (dir : List ℕ) (job : JobForm) (
     → PlannedOf files dir job group s (accepted planned) → IsSound planned.plan × (length planned.names ≡ planned.plan.parties)
 unfolding PlannedOf PlanOf Then
 sound_plan files dir job group s planned good found (sessions, read, (plan, (same, within), e)) =
-    let is : planned ≡ record { names = job.names; group = group; plan = plan_of job.bits s (keeping sessions) } =
-    accepted_is planned _ e ∙ ap (λ (plan : Plan). record { names = job.names; group = group; plan = plan }) same in
+    let is : planned ≡ record { names = job.names; group = group; plan = plan_of job.bits s (keeping sessions); numeric = numeric_sessions job } =
+    accepted_is planned _ e ∙ ap (λ (plan : Plan). record { names = job.names; group = group; plan = plan; numeric = numeric_sessions job }) same in
     let limits : IsPlanWithin (plan_of job.bits s (keeping sessions)) = within in
     subst (λ (planned : Planned). IsSound planned.plan × (length planned.names ≡ planned.plan.parties)) (sym is)
     (plan_is_sound files dir job s sessions good found read limits, sym found.parties)
@@ -366,7 +368,7 @@ unfolding JobAt Then
 jobs_are_whole files dir asked job (planned, is, (forms, read, e)) =
     let sound = plan_at_sound files dir asked planned is in
     subst (λ (job : WholeJob). IsWhole job.world) (sym (accepted_is job (whole_job planned forms) e))
-    (parties_make_whole files dir planned.plan planned.names forms sound.0 sound.1 read)
+    (parties_make_whole files dir planned.numeric planned.plan planned.names forms sound.0 sound.1 read)
 
 -- ---- its names
 

@@ -29,12 +29,12 @@ pub data Due : Type 0 where
 unfoldable pub DueOf : CommandForm → Contents → Verdict Due → Type 0
 DueOf (run dir workers view) files =
     Then (JobAt files dir view) (λ (job : WholeJob).
-    Ends (accepted (text (run_text job.names job.world job.group))))
+    Ends (accepted (text (run_text job.names job.numeric job.world job.group))))
 DueOf (check dir) files =
     Then (PlanAt files dir None) (λ (p : Planned). Ends (accepted (text (check_text p.names p.plan))))
 DueOf (pair dir group) files =
     Then (PairAt files dir group) (λ (p : PairedJob).
-    Ends (accepted (text (pair_text p.names p.first (second_of p) p.group))))
+    Ends (accepted (text (pair_text p.names p.numeric p.first (second_of p) p.group))))
 DueOf (node dir name) files = Then (NodeAt files dir name) (λ (job : NodeForm). Ends (accepted (talk job)))
 DueOf (sample count) files =
     Ends (accepted (text (sample_text sample_names (sample_job count) count)))

@@ -25,7 +25,7 @@ pub record AreAlike (w : World) (group : ℕ) (other : InputLists) : Type 0 wher
 -- the outputs of a job, and then what the group sees in the second world of these inputs
 abbrev pub other_text : WholeJob → ℕ → InputLists → List ℕ
 other_text job group other =
-    seen_text job.names job.world group (view (second_world job.world other group) group)
+    seen_text job.names job.numeric job.world group (view (second_world job.world other group) group)
 
 -- whatever other inputs are alike to the group that was asked for, what was written has its view
 -- in their second world
@@ -40,7 +40,7 @@ Hides job Written =
 abbrev pub same_seen : PairedJob → List ℕ
 same_seen job =
     let seen = view job.first job.group in
-    pair_seen job.names job.first (second_of job) job.group seen seen
+    pair_seen job.names job.numeric job.first (second_of job) job.group seen seen
 
 -- the other inputs can be hidden from the group, and what was written tells the same view of both runs
 pub record HidesPair (job : PairedJob) (Written : List ℕ → Type 0) : Type 0 where

@@ -30,10 +30,11 @@ pub record TalkedOver (part : NodePart) (links : LinksReading) (net net' : NetRe
 
 -- The lines of party `me` were written, or `out` failed to take them; where the talk ended with a fault, nothing was
 -- written.
-abbrev pub Written : List (List ℕ) → Plan → ℕ → Bool → Result Results NodeFault → SinkReading → SinkReading
-    → Result Unit Stop → Type 0
-Written names plan me view (Ok results) out out' (Ok _) = Writes (node_text names plan me view results) out out' (Ok tt)
-Written names plan me view (Ok results) out out' (Err stop) =
-    (stop ≡ Out) × FailsToWrite (node_text names plan me view results) out out'
-Written names plan me view (Err fault) out out' (Ok _) = ⊥
-Written names plan me view (Err fault) out out' (Err stop) = (stop ≡ Peer names fault) × (out' ≡ out)
+abbrev pub Written : List (List ℕ) → List Bool → Plan → ℕ → Bool → Result Results NodeFault → SinkReading
+    → SinkReading → Result Unit Stop → Type 0
+Written names numeric plan me view (Ok results) out out' (Ok _) =
+    Writes (node_text names numeric plan me view results) out out' (Ok tt)
+Written names numeric plan me view (Ok results) out out' (Err stop) =
+    (stop ≡ Out) × FailsToWrite (node_text names numeric plan me view results) out out'
+Written names numeric plan me view (Err fault) out out' (Ok _) = ⊥
+Written names numeric plan me view (Err fault) out out' (Err stop) = (stop ≡ Peer names fault) × (out' ≡ out)

@@ -29,7 +29,7 @@ offered job outside = outside.net.offers (job.plan.parties - 1)
 
 -- the lines of what it read, and its own view, if the nodes of its job write theirs
 abbrev pub lines_of : NodeForm → Results → List ℕ
-lines_of job results = node_text job.names job.plan job.me job.view results
+lines_of job results = node_text job.names job.numeric job.plan job.me job.view results
 
 -- The net gave a fresh link to each peer, and steady ones where it is steady. Over them the run of each node with this
 -- part, and there is one, comes to the result, and the net has them back.

@@ -50,7 +50,7 @@ fn audit_planned<F: Files, O: Sink>(
         → RunsAlone (Some (audit dir.now)) before (F.reading files.new) (O.reading out.old) (O.reading out.new) result }
 {
     planned.plan.recall();
-    let parties = read_parties(alloc, files, dir, &planned.names, &planned.plan)?;
+    let parties = read_parties(alloc, files, dir, planned)?;
     let inputs = inputs_of(alloc, &planned.plan, &parties)?;
     let tapes = tapes_of(alloc, &parties)?;
     let text = read_file(alloc, files, dir, "view.txt")?;

@@ -55,6 +55,7 @@ where
 fn write_outcome<O: Sink>(
     out: &mut O,
     names: Names,
+    numeric: &[bool],
     plan: &Plan,
     me: u32,
     view: bool,
@@ -63,10 +64,10 @@ fn write_outcome<O: Sink>(
     requires names { length names ≡ plan.now.parties }
     requires party { me < length names }
     requires counts { IfOk outcome (HasCountsOf plan.now) }
-    ensures { Written names plan.now me view outcome (O.reading out.old) (O.reading out.new) result }
+    ensures { Written names numeric.now plan.now me view outcome (O.reading out.old) (O.reading out.new) result }
 {
     match outcome {
-        Ok(done) => Ok(write_node(out, &names, plan, me, view, &done)?),
+        Ok(done) => Ok(write_node(out, &names, numeric, plan, me, view, &done)?),
         Err(fault) => Err(Stop::Peer { names, fault }),
     }
 }
@@ -97,6 +98,7 @@ where
         view,
         me,
         plan,
+        numeric,
         given,
         digest,
     } = job;
@@ -104,23 +106,23 @@ where
     let ready = match NodeReady::make(alloc, &plan, me, &inputs, tapes, &digest, form) {
         Ok(ready) => ready,
         Err(_) => {
-            drop((inputs, plan, hosts, names));
+            drop((inputs, plan, numeric, hosts, names));
             return Err(Stop::Memory);
         }
     };
     let links = match net.links(alloc, &hosts, port, me, plan.parties()) {
         Ok(links) => links,
         Err(NetRefusal::Failed) => {
-            drop((ready, inputs, plan, hosts, names));
+            drop((ready, inputs, plan, numeric, hosts, names));
             return Err(Stop::Net);
         }
         Err(NetRefusal::Memory) => {
-            drop((ready, inputs, plan, hosts, names));
+            drop((ready, inputs, plan, numeric, hosts, names));
             return Err(Stop::Memory);
         }
     };
     let outcome = talk(means.threads, net, spawner, &plan, ready, links);
-    let result = write_outcome(out, names, &plan, me, view, outcome);
-    drop((inputs, plan, hosts));
+    let result = write_outcome(out, names, &numeric, &plan, me, view, outcome);
+    drop((inputs, plan, numeric, hosts));
     result
 }

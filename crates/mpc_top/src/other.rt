@@ -21,18 +21,19 @@ pub(crate) fn read_other_inputs<F: Files>(
     files: &mut F,
     dir: &str,
     names: &Names,
+    numeric: &[bool],
     plan: &Plan,
     inputs: &Inputs,
 ) -> Result<Inputs, Stop>
     requires names { length names.now ≡ plan.now.parties }
     requires inputs { AreInputs plan.now inputs.now }
     ensures reads { ReadsAs dir.now (other_file ∷ []) (λ other. other)
-        (λ contents. OtherAt contents dir.now plan.now names.now inputs.now)
+        (λ contents. OtherAt contents dir.now numeric.now plan.now names.now inputs.now)
         (F.reading files.old) (F.reading files.new) result }
     ensures fits { IfOk result (AreInputs plan.now) }
 {
     let bytes = read_file(alloc, files, dir, "other.toml")?;
-    other_in(alloc, &bytes, names, plan, inputs)
+    other_in(alloc, &bytes, names, numeric, plan, inputs)
 }
 
 #[tactic(auto, unfolding(refusal_text::specs::Lines::other_line))]
@@ -40,16 +41,18 @@ fn other_in(
     alloc: Global,
     bytes: &[u8],
     names: &Names,
+    numeric: &[bool],
     plan: &Plan,
     inputs: &Inputs,
 ) -> Result<Inputs, Stop>
     requires names { length names.now ≡ plan.now.parties }
     requires inputs { AreInputs plan.now inputs.now }
     ensures walks { WalksAs (λ other. other)
-        (Ends (verdict_of (other_line names.now) (other_in plan.now names.now inputs.now bytes.now))) result }
+        (Ends (verdict_of (other_line names.now)
+        (other_in numeric.now plan.now names.now inputs.now bytes.now))) result }
     ensures fits { IfOk result (AreInputs plan.now) }
 {
-    read_other(alloc, bytes, plan, names, inputs).map_err(|fault| stop_of(
+    read_other(alloc, bytes, numeric, plan, names, inputs).map_err(|fault| stop_of(
         alloc,
         Some(names),
         &[],

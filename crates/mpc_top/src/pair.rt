@@ -66,9 +66,18 @@ fn run_planned<F: Files, O: Sink, P: Pace, R: Threads + Sync>(
 {
     let alloc = means.alloc;
     let group = group_of(planned);
-    let parties = read_parties(alloc, files, dir, &planned.names, &planned.plan)?;
+    let parties = read_parties(alloc, files, dir, planned)?;
     let inputs = inputs_of(alloc, &planned.plan, &parties)?;
-    let other = read_other_inputs(alloc, files, dir, &planned.names, &planned.plan, &inputs)?;
+    let numeric: &[bool] = &planned.numeric;
+    let other = read_other_inputs(
+        alloc,
+        files,
+        dir,
+        &planned.names,
+        numeric,
+        &planned.plan,
+        &inputs,
+    )?;
     let pair = hidden_pair(alloc, planned, group, parties, &other)?;
     let Pair {
         first,
@@ -80,6 +89,7 @@ fn run_planned<F: Files, O: Sink, P: Pace, R: Threads + Sync>(
     Ok(write_pair(
         out,
         &planned.names,
+        numeric,
         &planned.plan,
         &first,
         &second,

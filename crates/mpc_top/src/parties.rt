@@ -6,11 +6,9 @@ ghost use Rattle.job_walk.specs.FilesAsked.{party_files};
 ghost use Rattle.job_walk.specs.Reads.{ReadsAs};
 ghost use Rattle.mpc_top.specs.Seen.{parties_view};
 
-use job_plan::Plan;
-use job_walk::{Stop, read_party_file};
+use job_walk::{Planned, Stop, read_party_file};
 use outer_io::Files;
 use party_file::PartyData;
-use party_names::Names;
 use std::alloc::Global;
 
 /// Reads the files of all parties.
@@ -18,19 +16,27 @@ pub(crate) fn read_parties<F: Files>(
     alloc: Global,
     files: &mut F,
     dir: &str,
-    names: &Names,
-    plan: &Plan,
+    planned: &Planned,
 ) -> Result<Vec<PartyData>, Stop>
-    requires { length names.now ≡ plan.now.parties }
-    ensures reads { ReadsAs dir.now (party_files names.now) parties_view
-        (λ contents. PartiesAfter contents dir.now plan.now [] names.now)
+    requires { length planned.now.names ≡ planned.now.plan.parties }
+    ensures reads { ReadsAs dir.now (party_files planned.now.names) parties_view
+        (λ contents. PartiesAfter contents dir.now planned.now.numeric.items planned.now.plan [] planned.now.names)
         (F.reading files.old) (F.reading files.new) result }
-    ensures count { IfOk result (λ parties. length parties.items ≡ plan.now.parties) }
-    ensures fit { IfOk result (λ parties. AllFit plan.now parties.items) }
+    ensures count { IfOk result (λ parties. length parties.items ≡ planned.now.plan.parties) }
+    ensures fit { IfOk result (λ parties. AllFit planned.now.plan parties.items) }
 {
+    let numeric: &[bool] = &planned.numeric;
     let mut parties = Vec::new(alloc);
-    for p in 0..names.len() {
-        let party = read_party_file(alloc, files, dir, plan, p, names.name(p))?;
+    for p in 0..planned.names.len() {
+        let party = read_party_file(
+            alloc,
+            files,
+            dir,
+            numeric,
+            &planned.plan,
+            p,
+            planned.names.name(p),
+        )?;
         parties.push(party)?;
     }
     Ok(parties)

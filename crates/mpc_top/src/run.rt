@@ -118,10 +118,17 @@ fn run_planned<F: Files, O: Sink, P: Pace, R: Threads + Sync>(
         → RunsAlone (Some (run dir.now workers view)) before (F.reading files.new)
         (O.reading out.old) (O.reading out.new) result }
 {
-    let parties = read_parties(means.alloc, files, dir, &planned.names, &planned.plan)?;
+    let parties = read_parties(means.alloc, files, dir, planned)?;
     let ready = prepared(means.alloc, &planned.plan, parties, workers)?;
     let done = ready.run(means.threads, &planned.plan, means.pace);
-    Ok(write_run(out, &planned.names, &planned.plan, &done, planned.group)?)
+    Ok(write_run(
+        out,
+        &planned.names,
+        &planned.numeric,
+        &planned.plan,
+        &done,
+        planned.group,
+    )?)
 }
 
 /// Checks the job of a folder: its structure and its counts.

@@ -18,4 +18,5 @@ pub mod AssemblySteps
 pub mod InputSteps
 pub mod Sizes
 pub mod ReadSteps
+pub mod NarrowOutputs
 pub mod WireDepths

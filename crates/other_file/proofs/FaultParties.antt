@@ -30,27 +30,27 @@ own_below n p true true o l = l
 own_below n p true false None l = tt
 own_below n p true false (Some fault) l = l
 
-party_below : (plan : Plan) (names : List (List ℕ)) (given : Members) (n p : ℕ) → p < n → BelowIn n (party_fault plan names given p)
+party_below : (numeric : List Bool) (plan : Plan) (names : List (List ℕ)) (given : Members) (n p : ℕ) → p < n → BelowIn n (party_fault numeric plan names given p)
 unfolding party_fault
-party_below plan names given n p l = own_below n p (has_field (name_at names p) given) (is_misfit kind.Texts (name_at names p) given) _ l
+party_below numeric plan names given n p l = own_below n p (has_field (name_at names p) given) (is_misfit kind.Texts (name_at names p) given) _ l
 
 or_below : (n : ℕ) (file : Option PartyFault) (o : Option OtherFault) → BelowIn n o → BelowIn n (option_or (option_map (λ fault. File fault) file) o)
 or_below n None o below = below
 or_below n (Some fault) o below = tt
 
-fields_below : (plan : Plan) (names : List (List ℕ)) (fields : Members) → BelowIn plan.parties (other_fault plan names fields)
+fields_below : (numeric : List Bool) (plan : Plan) (names : List (List ℕ)) (fields : Members) → BelowIn plan.parties (other_fault numeric plan names fields)
 unfolding other_fault
-fields_below plan names fields =
+fields_below numeric plan names fields =
     or_below plan.parties (first_fault (file_checks names fields)) _
-    (holds-joined (HasPartyBelow plan.parties) plan.parties (λ p. party_fault plan names (inputs_in fields) p ∷ [])
-    (λ p l. one_below plan.parties (party_fault plan names (inputs_in fields) p) (party_below plan names (inputs_in fields) plan.parties p l)))
+    (holds-joined (HasPartyBelow plan.parties) plan.parties (λ p. party_fault numeric plan names (inputs_in fields) p ∷ [])
+    (λ p l. one_below plan.parties (party_fault numeric plan names (inputs_in fields) p) (party_below numeric plan names (inputs_in fields) plan.parties p l)))
 
 -- the fault of a reading, at the exit of a `?`
-pub exit_below : {A : Type 0} (plan : Plan) (names : List (List ℕ)) (fields : Members) (r : Result A OtherFault) (e : OtherFault) → IsErrAnd r (λ f. f ≡ e)
-    → (e ≡ Memory) ⊎ (other_fault plan names fields ≡ Some e) → IfErr r (HasPartyBelow plan.parties)
-exit_below plan names fields (Ok x) e h w = absurd h
-exit_below plan names fields (Err f) e h w = subst (HasPartyBelow plan.parties) (sym h) (told w)
+pub exit_below : {A : Type 0} (numeric : List Bool) (plan : Plan) (names : List (List ℕ)) (fields : Members) (r : Result A OtherFault) (e : OtherFault) → IsErrAnd r (λ f. f ≡ e)
+    → (e ≡ Memory) ⊎ (other_fault numeric plan names fields ≡ Some e) → IfErr r (HasPartyBelow plan.parties)
+exit_below numeric plan names fields (Ok x) e h w = absurd h
+exit_below numeric plan names fields (Err f) e h w = subst (HasPartyBelow plan.parties) (sym h) (told w)
   where
-    told : (e ≡ Memory) ⊎ (other_fault plan names fields ≡ Some e) → HasPartyBelow plan.parties e
+    told : (e ≡ Memory) ⊎ (other_fault numeric plan names fields ≡ Some e) → HasPartyBelow plan.parties e
     told (inl memory) = subst (HasPartyBelow plan.parties) (sym memory) tt
-    told (inr is) = subst (BelowIn plan.parties) is (fields_below plan names fields)
+    told (inr is) = subst (BelowIn plan.parties) is (fields_below numeric plan names fields)

@@ -5,7 +5,7 @@ ghost use Rattle.toml_fields.specs.Fields.{text_of};
 ghost use Rattle.list_laws.specs.Lists.{listed};
 ghost use Rattle.list_laws.specs.Checks.{first_fault};
 ghost use Rattle.plan_model.specs.InputWords.{AreInputs, session_words, input_words};
-ghost use Rattle.party_file.specs.Table.{numbers_in};
+ghost use Rattle.party_file.specs.Table.{sessions_given};
 ghost use Rattle.party_file.specs.declared.fault.PartyFault.TheVariants as own;
 ghost use Rattle.other_file.specs.Table.{text_checks, party_fault, party_inputs};
 ghost use Rattle.other_file.specs.declared.fault.OtherFault.TheVariants.{Memory};
@@ -21,15 +21,16 @@ use toml_fields::{Kind, has_field, is_misfit, items_at};
 /// The inputs of a party in these texts, one for each session.
 fn read_texts(
     alloc: Global,
+    numeric: &[bool],
     plan: &Plan,
     party: u32,
     items: &[Value],
 ) -> Result<Vec<Vec<u64>>, PartyFault>
     ensures passed { let texts = map text_of (map view items.now) in IfOk result
-        (λ words. (first_fault (text_checks plan.now party texts) ≡ None)
-        × (session_words words.items ≡ map numbers_in texts)) }
+        (λ words. (first_fault (text_checks numeric.now plan.now party texts) ≡ None)
+        × (session_words words.items ≡ sessions_given numeric.now plan.now party texts)) }
     ensures fault { let texts = map text_of (map view items.now) in IfErr result
-        (λ fault. (fault ≡ own.Memory) ⊎ (first_fault (text_checks plan.now party texts) ≡ Some fault)) }
+        (λ fault. (fault ≡ own.Memory) ⊎ (first_fault (text_checks numeric.now plan.now party texts) ≡ Some fault)) }
 {
     let wanted = u64::from(plan.sessions());
     let found = items.len() as u64;
@@ -40,7 +41,7 @@ fn read_texts(
             found,
         });
     }
-    read_inputs(alloc, plan, party, items)
+    read_inputs(alloc, numeric, plan, party, items)
 }
 
 /// Copies of the inputs of a party in the first run, by session.
@@ -64,6 +65,7 @@ fn kept(
 /// The inputs of a party: those that this table gives, or where it doesn't name the party, those of the first run.
 fn read_party(
     alloc: Global,
+    numeric: &[bool],
     plan: &Plan,
     names: &Names,
     inputs: &Inputs,
@@ -74,10 +76,11 @@ fn read_party(
     requires inputs { AreInputs plan.now inputs.now }
     requires party { party < plan.now.parties }
     ensures passed { IfOk result (λ words.
-        (party_fault plan.now names.now (table_view given.now) party ≡ None)
-        × (session_words words.items ≡ party_inputs names.now inputs.now (table_view given.now) party)) }
+        (party_fault numeric.now plan.now names.now (table_view given.now) party ≡ None)
+        × (session_words words.items
+        ≡ party_inputs numeric.now plan.now names.now inputs.now (table_view given.now) party)) }
     ensures fault { IfErr result (λ fault. (fault ≡ Memory)
-        ⊎ (party_fault plan.now names.now (table_view given.now) party ≡ Some fault)) }
+        ⊎ (party_fault numeric.now plan.now names.now (table_view given.now) party ≡ Some fault)) }
 {
     let name = names.name(party);
     if !has_field(given, name) {
@@ -86,7 +89,7 @@ fn read_party(
     if is_misfit(given, name, Kind::Texts) {
         return Err(OtherFault::WrongKind { party });
     }
-    match read_texts(alloc, plan, party, items_at(given, name)) {
+    match read_texts(alloc, numeric, plan, party, items_at(given, name)) {
         Ok(words) => Ok(words),
         Err(fault) => Err(of_party(party, fault)),
     }
@@ -95,6 +98,7 @@ fn read_party(
 /// The inputs of all parties.
 pub(crate) fn read_parties(
     alloc: Global,
+    numeric: &[bool],
     plan: &Plan,
     names: &Names,
     inputs: &Inputs,
@@ -103,16 +107,17 @@ pub(crate) fn read_parties(
     requires names { length names.now ≡ plan.now.parties }
     requires inputs { AreInputs plan.now inputs.now }
     ensures passed { IfOk result (λ words.
-        (first_fault (listed plan.now.parties (party_fault plan.now names.now (table_view given.now))) ≡ None)
+        (first_fault (listed plan.now.parties (party_fault numeric.now plan.now names.now (table_view given.now)))
+        ≡ None)
         × (input_words words.items
-        ≡ listed plan.now.parties (party_inputs names.now inputs.now (table_view given.now)))) }
+        ≡ listed plan.now.parties (party_inputs numeric.now plan.now names.now inputs.now (table_view given.now)))) }
     ensures fault { IfErr result (λ fault. (fault ≡ Memory)
-        ⊎ (first_fault (listed plan.now.parties (party_fault plan.now names.now (table_view given.now)))
+        ⊎ (first_fault (listed plan.now.parties (party_fault numeric.now plan.now names.now (table_view given.now)))
         ≡ Some fault)) }
 {
     let mut words = Vec::new(alloc);
     for party in 0..names.len() {
-        words.push(read_party(alloc, plan, names, inputs, given, party)?)?;
+        words.push(read_party(alloc, numeric, plan, names, inputs, given, party)?)?;
     }
     Ok(words)
 }

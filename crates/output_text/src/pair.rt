@@ -24,6 +24,7 @@ use text_parts::gather_word;
 pub fn write_pair<S: Sink>(
     sink: &mut S,
     names: &Names,
+    numeric: &[bool],
     plan: &Plan,
     first: &Done,
     second: &Done,
@@ -37,13 +38,14 @@ pub fn write_pair<S: Sink>(
     requires tapes { length tapes.now ≡ length names.now }
     ensures { OfItsWorld plan.now first.now (λ w. OfItsWorld plan.now second.now
         (λ v. session_words tapes.now ≡ v.tapes
-        → Writes (pair_text names.now w v group.mask) (S.reading sink.old) (S.reading sink.new) result)) }
+        → Writes (pair_text names.now numeric.now w v group.mask) (S.reading sink.old) (S.reading sink.new) result)) }
 {
     let mut blocks = Blocks::new(sink);
     let first = FinishedRun {
         names,
         plan,
         done: first,
+        numeric,
     };
     gather_pair(&mut blocks, &first, second, group, tapes);
     blocks.finish()
@@ -63,7 +65,8 @@ fn gather_pair<G: Gather>(
     requires tapes { length tapes.now ≡ length first.now.names.now }
     ensures { OfRunsWorld first.now (λ w. OfItsWorld first.now.plan.now second.now
         (λ v. session_words tapes.now ≡ v.tapes
-        → Adds (pair_text first.now.names.now w v group.mask) (G.gathered out.old) (G.gathered out.new))) }
+        → Adds (pair_text first.now.names.now first.now.numeric.now w v group.mask)
+        (G.gathered out.old) (G.gathered out.new))) }
 {
     out.push(b"first\n");
     gather_out(out, first);
@@ -72,6 +75,7 @@ fn gather_pair<G: Gather>(
         names: first.names,
         plan: first.plan,
         done: second,
+        numeric: first.numeric,
     };
     out.push(b"second\n");
     gather_out(out, &second);

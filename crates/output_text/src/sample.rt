@@ -1,5 +1,5 @@
 //! The text of a sample.
-ghost use Rattle.std.specs.Prelude.{◌≡◌, ◌<◌, length};
+ghost use Rattle.std.specs.Prelude.{◌≡◌, ◌<◌, [], length};
 ghost use Rattle.outer_io.specs.Sink.{Writes};
 ghost use Rattle.outer_io.specs.Blocks.{Adds};
 ghost use Rattle.desk_workers.specs.Runs.{IsRunOver, OfItsWorld};
@@ -30,7 +30,12 @@ pub fn write_sample<S: Sink>(
         (λ w. Writes (sample_text names.now w count) (S.reading sink.old) (S.reading sink.new) result) }
 {
     let mut blocks = Blocks::new(sink);
-    let run = FinishedRun { names, plan, done };
+    let run = FinishedRun {
+        names,
+        plan,
+        done,
+        numeric: &[],
+    };
     gather_sample(&mut blocks, &run, count);
     blocks.finish()
 }
@@ -38,6 +43,7 @@ pub fn write_sample<S: Sink>(
 fn gather_sample<G: Gather>(out: &mut G, run: &FinishedRun<'_>, count: u32)
     requires session { 0 < length run.now.plan.now.sessions }
     requires run { IsFinished run.now }
+    requires wires { run.now.numeric.now ≡ [] }
     ensures { OfRunsWorld run.now
         (λ w. Adds (sample_text run.now.names.now w count) (G.gathered out.old) (G.gathered out.new)) }
 {

@@ -11,7 +11,7 @@ use Rattle.tape_words.specs.Cuts.{cut}
 use Rattle.tape_words.specs.Seeds.{seed_word}
 use Rattle.toml_fields.specs.Documents.{document_of}
 use Rattle.list_laws.specs.Checks.{◌answers◌, first_fault, or_fault}
-use Rattle.party_file.specs.Table.{version_checks, name_checks, kind_checks, count_checks, input_checks, random_checks, seed_checks, seed_in, tape_checks, word_counts, party_checks, party_given, party_in, party_in_fields, PartyForm, numbers_in, tapes_of}
+use Rattle.party_file.specs.Table.{version_checks, name_checks, kind_checks, count_checks, input_checks, random_checks, seed_checks, seed_in, tape_checks, word_counts, party_checks, party_given, party_in, party_in_fields, PartyForm, sessions_given, numbers_in, tapes_of}
 use Rattle.party_file.specs.declared.field.PartyField.TheVariants as field
 use Rattle.party_file.specs.declared.fault.PartyFault.{PartyFault}
 use Rattle.party_file.specs.declared.fault.PartyFault.TheVariants.{Memory, NotToml, TapeAndSeed, Missing, CountDiffers}
@@ -30,75 +30,75 @@ counted n fields e = eqb-true _ _ (not-false (length (texts_at (codes "inputs") 
 pub counted_items : (n : ℕ) (fields : Members) (items : List Data) → items ≡ items_at (codes "inputs") fields → first_fault (count_checks n fields) ≡ None → length items ≡ n
 counted_items n fields items is e = sym (length-map items text_of) ∙ ap length (texts_at-items (codes "inputs") fields items is) ∙ counted n fields e
 
-module _ (plan : Plan) (p : ℕ) (fields : Members) where
+module _ (numeric : List Bool) (plan : Plan) (p : ℕ) (fields : Members) where
   abbrev texts : List (List ℕ)
   texts = texts_at (codes "inputs") fields
 
   abbrev n : ℕ
   n = length plan.sessions
 
-  pub at_version : (fault : PartyFault) → first_fault (version_checks fields) ≡ Some fault → first_fault (party_checks plan p fields) ≡ Some fault
+  pub at_version : (fault : PartyFault) → first_fault (version_checks fields) ≡ Some fault → first_fault (party_checks numeric plan p fields) ≡ Some fault
   unfolding party_checks
   at_version fault h = first-front (version_checks fields) _ fault h
 
   module _ (v : first_fault (version_checks fields) ≡ None) where
-    pub at_names : (fault : PartyFault) → first_fault (name_checks fields) ≡ Some fault → first_fault (party_checks plan p fields) ≡ Some fault
+    pub at_names : (fault : PartyFault) → first_fault (name_checks fields) ≡ Some fault → first_fault (party_checks numeric plan p fields) ≡ Some fault
     unfolding party_checks
     at_names fault h = after_passed (version_checks fields) _ _ v (first-front (name_checks fields) _ fault h)
 
     module _ (w : first_fault (name_checks fields) ≡ None) where
-      pub at_kinds : (fault : PartyFault) → first_fault (kind_checks fields) ≡ Some fault → first_fault (party_checks plan p fields) ≡ Some fault
+      pub at_kinds : (fault : PartyFault) → first_fault (kind_checks fields) ≡ Some fault → first_fault (party_checks numeric plan p fields) ≡ Some fault
       unfolding party_checks
       at_kinds fault h = after_passed (version_checks fields) _ _ v (after_passed (name_checks fields) _ _ w (first-front (kind_checks fields) _ fault h))
 
       module _ (k : first_fault (kind_checks fields) ≡ None) where
-        pub at_counts : (fault : PartyFault) → first_fault (count_checks n fields) ≡ Some fault → first_fault (party_checks plan p fields) ≡ Some fault
+        pub at_counts : (fault : PartyFault) → first_fault (count_checks n fields) ≡ Some fault → first_fault (party_checks numeric plan p fields) ≡ Some fault
         unfolding party_checks
         at_counts fault h =
             after_passed (version_checks fields) _ _ v (after_passed (name_checks fields) _ _ w (after_passed (kind_checks fields) _ _ k (first-front (count_checks n fields) _ fault h)))
 
         module _ (c : first_fault (count_checks n fields) ≡ None) where
-          pub at_inputs : (fault : PartyFault) → first_fault (input_checks plan p texts) ≡ Some fault → first_fault (party_checks plan p fields) ≡ Some fault
+          pub at_inputs : (fault : PartyFault) → first_fault (input_checks numeric plan p texts) ≡ Some fault → first_fault (party_checks numeric plan p fields) ≡ Some fault
           unfolding party_checks
           at_inputs fault h =
               after_passed (version_checks fields) _ _ v (after_passed (name_checks fields) _ _ w (after_passed (kind_checks fields) _ _ k
-              (after_passed (count_checks n fields) _ _ c (first-front (input_checks plan p texts) _ fault h))))
+              (after_passed (count_checks n fields) _ _ c (first-front (input_checks numeric plan p texts) _ fault h))))
 
-          pub at_random : (o : Option PartyFault) → first_fault (input_checks plan p texts) ≡ None → first_fault (random_checks plan p fields) ≡ o → first_fault (party_checks plan p fields) ≡ o
+          pub at_random : (o : Option PartyFault) → first_fault (input_checks numeric plan p texts) ≡ None → first_fault (random_checks plan p fields) ≡ o → first_fault (party_checks numeric plan p fields) ≡ o
           unfolding party_checks
           at_random o i h =
               after_passed (version_checks fields) _ _ v (after_passed (name_checks fields) _ _ w (after_passed (kind_checks fields) _ _ k
-              (after_passed (count_checks n fields) _ _ c (after_passed (input_checks plan p texts) _ _ i h))))
+              (after_passed (count_checks n fields) _ _ c (after_passed (input_checks numeric plan p texts) _ _ i h))))
 
 -- the form of inputs and tapes that were read
-pub form-read : (plan : Plan) (p : ℕ) (fields : Members) (inputs tapes : List (List ℕ)) → inputs ≡ map numbers_in (texts_at (codes "inputs") fields) → tapes ≡ tapes_of plan p fields
-    → record { inputs = inputs; tapes = tapes } ≡ party_given plan p fields
+pub form-read : (numeric : List Bool) (plan : Plan) (p : ℕ) (fields : Members) (inputs tapes : List (List ℕ)) → inputs ≡ sessions_given numeric plan p (texts_at (codes "inputs") fields) → tapes ≡ tapes_of plan p fields
+    → record { inputs = inputs; tapes = tapes } ≡ party_given numeric plan p fields
 unfolding party_given
-form-read plan p fields inputs tapes i t = cc
+form-read numeric plan p fields inputs tapes i t = cc
 
-pub party_in-ok : (plan : Plan) (p : ℕ) (fields : Members) (form : PartyForm) → first_fault (party_checks plan p fields) ≡ None → form ≡ party_given plan p fields → party_in_fields plan p (Some fields) ≡ Ok form
-party_in-ok plan p fields form e is = ap (λ o. or_fault o (party_given plan p fields)) e ∙ ap Ok (sym is)
+pub party_in-ok : (numeric : List Bool) (plan : Plan) (p : ℕ) (fields : Members) (form : PartyForm) → first_fault (party_checks numeric plan p fields) ≡ None → form ≡ party_given numeric plan p fields → party_in_fields numeric plan p (Some fields) ≡ Ok form
+party_in-ok numeric plan p fields form e is = ap (λ o. or_fault o (party_given numeric plan p fields)) e ∙ ap Ok (sym is)
 
-pub party_in-err : (plan : Plan) (p : ℕ) (fields : Members) (fault : PartyFault) → first_fault (party_checks plan p fields) ≡ Some fault → party_in_fields plan p (Some fields) ≡ Err fault
-party_in-err plan p fields fault e = ap (λ o. or_fault o (party_given plan p fields)) e
+pub party_in-err : (numeric : List Bool) (plan : Plan) (p : ℕ) (fields : Members) (fault : PartyFault) → first_fault (party_checks numeric plan p fields) ≡ Some fault → party_in_fields numeric plan p (Some fields) ≡ Err fault
+party_in-err numeric plan p fields fault e = ap (λ o. or_fault o (party_given numeric plan p fields)) e
 
-pub file-ok : (plan : Plan) (p : ℕ) (bytes : List ℕ) (fields : Members) (form : PartyForm) → document_of bytes ≡ Some fields → first_fault (party_checks plan p fields) ≡ None → form ≡ party_given plan p fields
-    → party_in plan p bytes ≡ Ok form
+pub file-ok : (numeric : List Bool) (plan : Plan) (p : ℕ) (bytes : List ℕ) (fields : Members) (form : PartyForm) → document_of bytes ≡ Some fields → first_fault (party_checks numeric plan p fields) ≡ None → form ≡ party_given numeric plan p fields
+    → party_in numeric plan p bytes ≡ Ok form
 unfolding party_in
-file-ok plan p bytes fields form d e is = ap (party_in_fields plan p) d ∙ party_in-ok plan p fields form e is
+file-ok numeric plan p bytes fields form d e is = ap (party_in_fields numeric plan p) d ∙ party_in-ok numeric plan p fields form e is
 
-pub file-err : (plan : Plan) (p : ℕ) (bytes : List ℕ) (fields : Members) (fault : PartyFault) → document_of bytes ≡ Some fields → first_fault (party_checks plan p fields) ≡ Some fault → party_in plan p bytes ≡ Err fault
+pub file-err : (numeric : List Bool) (plan : Plan) (p : ℕ) (bytes : List ℕ) (fields : Members) (fault : PartyFault) → document_of bytes ≡ Some fields → first_fault (party_checks numeric plan p fields) ≡ Some fault → party_in numeric plan p bytes ≡ Err fault
 unfolding party_in
-file-err plan p bytes fields fault d e = ap (party_in_fields plan p) d ∙ party_in-err plan p fields fault e
+file-err numeric plan p bytes fields fault d e = ap (party_in_fields numeric plan p) d ∙ party_in-err numeric plan p fields fault e
 
-pub or_file : (plan : Plan) (p : ℕ) (bytes : List ℕ) (fields : Members) (fault : PartyFault) → document_of bytes ≡ Some fields → (fault ≡ Memory) ⊎ (first_fault (party_checks plan p fields) ≡ Some fault)
-    → (fault ≡ Memory) ⊎ (party_in plan p bytes ≡ Err fault)
-or_file plan p bytes fields fault d (inl memory) = inl memory
-or_file plan p bytes fields fault d (inr e) = inr (file-err plan p bytes fields fault d e)
+pub or_file : (numeric : List Bool) (plan : Plan) (p : ℕ) (bytes : List ℕ) (fields : Members) (fault : PartyFault) → document_of bytes ≡ Some fields → (fault ≡ Memory) ⊎ (first_fault (party_checks numeric plan p fields) ≡ Some fault)
+    → (fault ≡ Memory) ⊎ (party_in numeric plan p bytes ≡ Err fault)
+or_file numeric plan p bytes fields fault d (inl memory) = inl memory
+or_file numeric plan p bytes fields fault d (inr e) = inr (file-err numeric plan p bytes fields fault d e)
 
-pub file-none : (plan : Plan) (p : ℕ) (bytes : List ℕ) → document_of bytes ≡ None → party_in plan p bytes ≡ Err NotToml
+pub file-none : (numeric : List Bool) (plan : Plan) (p : ℕ) (bytes : List ℕ) → document_of bytes ≡ None → party_in numeric plan p bytes ≡ Err NotToml
 unfolding party_in
-file-none plan p bytes d = ap (party_in_fields plan p) d
+file-none numeric plan p bytes d = ap (party_in_fields numeric plan p) d
 
 -- the words of a seed that stands in the file
 pub random_by_seed : (plan : Plan) (p : ℕ) (fields : Members) (text : List ℕ) (tapes : List (List ℕ)) → has_field (codes "seed") fields ≡ true → text ≡ text_at (codes "seed") fields

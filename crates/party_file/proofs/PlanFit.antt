@@ -1,8 +1,8 @@
 -- What a party's file without a fault gives fits the plan.
-use Rattle.std.proofs.Common.{◌≡◌, ℕ, zero, suc, ◌^◌, ◌<◌, ◌≤◌, Bool, true, false, not, nat_lt, List, [], ◌∷◌, length, map, drop, Option, None, Some, refl, sym, ◌∙◌, ap, subst, arith, inl, inr, length-drop}
+use Rattle.std.proofs.Common.{◌≡◌, ℕ, zero, suc, ◌^◌, ◌<◌, ◌≤◌, Bool, true, false, not, nat_lt, List, [], ◌∷◌, length, drop, Option, None, Some, refl, sym, ◌∙◌, ap, subst, arith, inl, inr, length-drop}
 use Rattle.std.specs.Prelude.{codes, All, sum, slice_index, slice_index_or, ◌==◌, if◌then◌else◌}
 use Rattle.std.proofs.lemmas.Bool.{eqb-true, ltb-true, ltb-false, cases_lt, not-false}
-use Rattle.std.proofs.lemmas.List.{get_or-map, length-map, get_or_past, length-take-le}
+use Rattle.std.proofs.lemmas.List.{get_or_past, length-take-le}
 use Rattle.std.proofs.lemmas.List.Elements.{All-take, All-drop}
 use Rattle.std.proofs.lemmas.List.Sums.{fails_before_first, sum_by-cons}
 use Rattle.std.proofs.lemmas.Nat.{pow_pos}
@@ -19,12 +19,15 @@ use Rattle.plan_model.specs.Plans.{Plan, session, words, gives}
 use Rattle.session_slots.specs.Counts.{owned}
 use Rattle.list_laws.proofs.Totals.{total_count}
 use Rattle.list_laws.specs.Checks.{◌answers◌, first_fault}
-use Rattle.party_file.specs.Table.{version_checks, name_checks, kind_checks, count_checks, session_checks, input_checks, random_checks, tape_checks, seed_checks, seed_in, party_checks, party_given, PartyForm, numbers_in, tapes_of, first_outside, out_of_ring, bad_words, word_counts}
+use Rattle.party_file.specs.Table.{version_checks, name_checks, kind_checks, count_checks, wire_checks, input_checks, random_checks, tape_checks, seed_checks, seed_in, party_checks, party_given, PartyForm, sessions_given, given_widths, number_checks, numbers_in, tapes_of, first_outside, out_of_ring, bad_words, word_counts}
 use Rattle.party_file.specs.declared.fault.PartyFault.TheVariants.{CountDiffers, TapeShort}
 use Rattle.party_file.specs.Forms.{FitsPlan}
 use Rattle.list_laws.proofs.FirstFaults.{passed-front, passed-back, passed-three, joined-passed, not_failed}
 use Rattle.party_file.proofs.FaultRows.{counted}
-use Rattle.party_file.proofs.SessionInputs.{checks_of}
+use Rattle.party_file.proofs.SessionInputs.{checks_of, given_of}
+use Rattle.party_file.proofs.GivenWidths.{any_place, widths_sum}
+use Rattle.value_words.specs.Turned.{is_numeric, wires_of}
+use Rattle.value_words.proofs.Turns.{wires_long, wires_below}
 
 -- ---- words of the ring
 
@@ -50,28 +53,43 @@ word_below bits words k all = elim (cases_lt k (length words)) [
 
 -- ---- inputs
 
-session_sound : (bits wanted s : ℕ) (text : List ℕ) → first_fault (session_checks bits wanted s text) ≡ None → (length (numbers_in text) ≡ wanted) × InRing bits (numbers_in text)
-unfolding session_checks
+session_sound : (bits wanted s : ℕ) (text : List ℕ) → first_fault (wire_checks bits wanted s text) ≡ None → (length (numbers_in text) ≡ wanted) × InRing bits (numbers_in text)
+unfolding wire_checks
 session_sound bits wanted s text e =
     let found = numbers_in text in
     let passed = passed-three (bad_words (Some s) text) (out_of_ring bits (Some s) found) (not (length found == wanted) answers CountDiffers (Some s) wanted (length found)) e in
     (eqb-true _ _ (not-false (length found == wanted) (not_failed _ _ passed.2)), all_inside bits (Some s) found passed.1)
 
-module _ (plan : Plan) (p : ℕ) (texts : List (List ℕ)) (counted : length texts ≡ length plan.sessions) (passed : first_fault (input_checks plan p texts) ≡ None) where
-  input_at : (s : ℕ) → s < length plan.sessions → slice_index_or (map numbers_in texts) s [] ≡ numbers_in (slice_index_or texts s [])
-  input_at s l = get_or-map numbers_in texts s [] [] (omega arith)
+module _ (numeric : List Bool) (plan : Plan) (p : ℕ) (texts : List (List ℕ)) (counted : length texts ≡ length plan.sessions) (passed : first_fault (input_checks numeric plan p texts) ≡ None) where
+  abbrev given : ℕ → List ℕ
+  given = given_of numeric plan p texts
 
-  input_sound : (s : ℕ) → s < length plan.sessions → (length (numbers_in (slice_index_or texts s [])) ≡ owned (session plan s) p) × InRing plan.bits (numbers_in (slice_index_or texts s []))
+  input_at : (s : ℕ) → s < length plan.sessions → slice_index_or (sessions_given numeric plan p texts) s [] ≡ given s
+  input_at s l = listed_at (length texts) given s [] (omega (arith, l, counted))
+
+  abbrev AreSound : ℕ → List ℕ → Type 0
+  AreSound s words = (length words ≡ owned (session plan s) p) × InRing plan.bits words
+
+  part_sound : (b : Bool) (s : ℕ) (text : List ℕ) → first_fault (if b then number_checks plan.bits (given_widths (session plan s) p) s text else wire_checks plan.bits (owned (session plan s) p) s text) ≡ None
+      → AreSound s (if b then wires_of plan.bits (given_widths (session plan s) p) (numbers_in text) else numbers_in text)
+  part_sound true s text h =
+      let widths = given_widths (session plan s) p in (
+        wires_long plan.bits widths (numbers_in text) ∙ widths_sum (session plan s) p,
+        λ k d l. subst (λ w. w < 2 ^ plan.bits) (sym (any_place (wires_of plan.bits widths (numbers_in text)) k d l)) (wires_below plan.bits widths (numbers_in text) k),
+      )
+  part_sound false s text h = session_sound plan.bits (owned (session plan s) p) s text h
+
+  input_sound : (s : ℕ) → s < length plan.sessions → AreSound s (given s)
   unfolding input_checks
-  input_sound s l = session_sound plan.bits (owned (session plan s) p) s (slice_index_or texts s []) (joined-passed (length plan.sessions) s (checks_of plan p texts) l passed)
+  input_sound s l = part_sound (is_numeric numeric s) s (slice_index_or texts s []) (joined-passed (length plan.sessions) s (checks_of numeric plan p texts) l passed)
 
-  pub input_count : (s : ℕ) → s < length plan.sessions → length (slice_index_or (map numbers_in texts) s []) ≡ total (length (owners (session plan s))) (λ v. if gives plan s p v then 1 else 0)
+  pub input_count : (s : ℕ) → s < length plan.sessions → length (slice_index_or (sessions_given numeric plan p texts) s []) ≡ total (length (owners (session plan s))) (λ v. if gives plan s p v then 1 else 0)
   input_count s l = ap length (input_at s l) ∙ (input_sound s l).0 ∙ sym (total_count (given_by p) (owners (session plan s)) (Given 0))
 
-  pub input_ring : (s : ℕ) → InRing plan.bits (slice_index_or (map numbers_in texts) s [])
+  pub input_ring : (s : ℕ) → InRing plan.bits (slice_index_or (sessions_given numeric plan p texts) s [])
   input_ring s = elim (cases_lt s (length plan.sessions)) [
     | inl l ↦ subst (InRing plan.bits) (sym (input_at s l)) (input_sound s l).1
-    | inr past ↦ subst (InRing plan.bits) (sym (get_or_past (map numbers_in texts) s [] (omega (arith, past, counted, length-map texts numbers_in)))) (in_ring-none plan.bits)
+    | inr past ↦ subst (InRing plan.bits) (sym (get_or_past (sessions_given numeric plan p texts) s [] (omega (arith, past, counted, length-listed (length texts) given)))) (in_ring-none plan.bits)
   ]
 
 -- ---- tapes
@@ -143,21 +161,21 @@ tapes_fit plan p fields e = go (has_field (codes "seed") fields) e
 
 -- ---- the file
 
-pub party-fits : (plan : Plan) (p : ℕ) (fields : Members) (form : PartyForm) → first_fault (party_checks plan p fields) ≡ None → form ≡ party_given plan p fields → FitsPlan plan p form
+pub party-fits : (numeric : List Bool) (plan : Plan) (p : ℕ) (fields : Members) (form : PartyForm) → first_fault (party_checks numeric plan p fields) ≡ None → form ≡ party_given numeric plan p fields → FitsPlan plan p form
 unfolding party_checks party_given
-party-fits plan p fields form e is =
+party-fits numeric plan p fields form e is =
     let texts = texts_at (codes "inputs") fields in
     let after_version = passed-back (version_checks fields) _ e in
     let after_names = passed-back (name_checks fields) _ after_version in
     let after_kinds = passed-back (kind_checks fields) _ after_names in
     let counts : length texts ≡ length plan.sessions = counted (length plan.sessions) fields (passed-front (count_checks (length plan.sessions) fields) _ after_kinds) in
     let after_counts = passed-back (count_checks (length plan.sessions) fields) _ after_kinds in
-    let inputs : first_fault (input_checks plan p texts) ≡ None = passed-front (input_checks plan p texts) _ after_counts in
-    let tapes : AreTapes plan p (tapes_of plan p fields) = tapes_fit plan p fields (passed-back (input_checks plan p texts) _ after_counts) in
+    let inputs : first_fault (input_checks numeric plan p texts) ≡ None = passed-front (input_checks numeric plan p texts) _ after_counts in
+    let tapes : AreTapes plan p (tapes_of plan p fields) = tapes_fit plan p fields (passed-back (input_checks numeric plan p texts) _ after_counts) in
     subst (FitsPlan plan p) (sym is) (record {
-      sessions = length-map texts numbers_in ∙ counts;
-      counts = input_count plan p texts counts inputs;
-      below = λ s k. word_below plan.bits (slice_index_or (map numbers_in texts) s []) k (input_ring plan p texts counts inputs s);
+      sessions = length-listed (length texts) (given_of numeric plan p texts) ∙ counts;
+      counts = input_count numeric plan p texts counts inputs;
+      below = λ s k. word_below plan.bits (slice_index_or (sessions_given numeric plan p texts) s []) k (input_ring numeric plan p texts counts inputs s);
       tapes = tapes.count;
       lengths = tapes.lengths;
       drawn = tapes.drawn;

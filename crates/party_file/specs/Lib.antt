@@ -1,3 +1,4 @@
 pub mod ToldFaults
 pub mod Table
 pub mod Forms
+pub mod GivenNumbers

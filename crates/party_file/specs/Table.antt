@@ -1,6 +1,6 @@
 -- The file of a party: its checks in order, what it gives, and the first fault.
-use Rattle.std.specs.Prelude.{ℕ, ◌^◌, nat_lt, ◌==◌, not, ◌&&◌, ◌||◌, pos, List, [], ◌∷◌, ◌++◌, length, map, sum, slice_index_or, Option, Some, None, Result, Err, if◌then◌else◌, codes}
-use Rattle.std.specs.List.{position_or_len}
+use Rattle.std.specs.Prelude.{ℕ, Bool, ◌*◌, ◌^◌, nat_lt, ◌==◌, not, ◌&&◌, ◌||◌, pos, List, [], ◌∷◌, ◌++◌, length, map, sum, slice_index, slice_index_or, Option, Some, None, Result, Err, if◌then◌else◌, codes}
+use Rattle.std.specs.List.{filter, position_or_len}
 use Rattle.std.specs.Option.{is_some, unwrap_or}
 use Rattle.std.specs.Ordering.{int_eq}
 use Rattle.std.specs.Result.{is_err, result_unwrap_or}
@@ -18,6 +18,9 @@ use Rattle.toml_fields.specs.Keys.{least_unknown}
 use Rattle.toml_fields.specs.declared.kind.Kind.TheVariants as kind
 use Rattle.plan_model.specs.Plans.{Plan, session, words}
 use Rattle.session_slots.specs.Counts.{owned}
+use Rattle.session_slots.specs.Sessions.{Session, given_by, source_from}
+use Rattle.session_slots.specs.declared.values.InputValue.{InputValue}
+use Rattle.value_words.specs.Turned.{is_numeric, most_bits, wires_of}
 use Rattle.list_laws.specs.Checks.{◌answers◌, first_fault, or_fault}
 use Rattle.party_file.specs.declared.field.PartyField.TheVariants as field
 use Rattle.party_file.specs.declared.fault.WordCause.{WordCause}
@@ -97,19 +100,65 @@ out_of_ring bits session words =
 
 -- ---- inputs
 
--- the inputs of a session in which `wanted` words are wanted
-unfoldable pub session_checks : ℕ → ℕ → ℕ → List ℕ → List (Option PartyFault)
-session_checks bits wanted s text =
+-- there are other than as many words of session s as are wanted
+abbrev pub other_count : ℕ → ℕ → List ℕ → Option PartyFault
+other_count wanted s words = not (length words == wanted) answers CountDiffers (Some s) wanted (length words)
+
+-- the inputs of session s, a word for each of `wires` wires
+unfoldable pub wire_checks : ℕ → ℕ → ℕ → List ℕ → List (Option PartyFault)
+wire_checks bits wires s text =
+    bad_words (Some s) text ∷ out_of_ring bits (Some s) (numbers_in text) ∷ other_count wires s (numbers_in text) ∷ []
+
+-- party p gives the input value
+abbrev pub gives_value : ℕ → InputValue → Bool
+gives_value p value = given_by p (source_from value.owner 0)
+
+-- the widths of the input values that party p gives, in their order
+abbrev pub given_widths : Session → ℕ → List ℕ
+given_widths session p = map (λ (value : InputValue). value.width) (filter (gives_value p) session.inputs)
+
+-- the width of each number's value: there is a number for each lane of each value
+abbrev pub number_widths : ℕ → List ℕ → List ℕ
+number_widths lanes widths = joined (length widths) (λ value. listed lanes (λ lane. slice_index widths value))
+
+-- the number at this place has more bits than its value has wires; one behind the last value may have all
+abbrev pub number_outside : List ℕ → ℕ → List ℕ → ℕ → Option PartyFault
+number_outside widths s numbers place =
+    not (nat_lt (slice_index numbers place) (2 ^ slice_index_or widths place most_bits)) answers
+    WordOutOfRing (Some s) place
+
+-- each of the numbers is looked at
+abbrev pub numbers_outside : List ℕ → ℕ → List ℕ → List (Option PartyFault)
+numbers_outside widths s numbers = listed (length numbers) (number_outside widths s numbers)
+
+-- the inputs of session s, a number for each lane of each value of these widths
+unfoldable pub number_checks : ℕ → List ℕ → ℕ → List ℕ → List (Option PartyFault)
+number_checks lanes widths s text =
     bad_words (Some s) text
-    ∷ out_of_ring bits (Some s) (numbers_in text)
-    ∷ (not (length (numbers_in text) == wanted) answers CountDiffers (Some s) wanted (length (numbers_in text)))
-    ∷ []
+    ∷ (numbers_outside (number_widths lanes widths) s (numbers_in text)
+    ++ (other_count (length widths * lanes) s (numbers_in text) ∷ []))
+
+-- the inputs of party p in session s
+abbrev pub session_checks : List Bool → Plan → ℕ → ℕ → List ℕ → List (Option PartyFault)
+session_checks numeric plan p s text =
+    if is_numeric numeric s then number_checks plan.bits (given_widths (session plan s) p) s text
+    else wire_checks plan.bits (owned (session plan s) p) s text
+
+-- and what they give: the words of the input wires that the party gives
+abbrev pub session_given : List Bool → Plan → ℕ → ℕ → List ℕ → List ℕ
+session_given numeric plan p s text =
+    if is_numeric numeric s then wires_of plan.bits (given_widths (session plan s) p) (numbers_in text)
+    else numbers_in text
 
 -- the inputs of party p, session by session
-unfoldable pub input_checks : Plan → ℕ → List (List ℕ) → List (Option PartyFault)
-input_checks plan p texts =
-    joined (length plan.sessions) (λ s. session_checks plan.bits (owned (session plan s) p) s
-    (slice_index_or texts s []))
+unfoldable pub input_checks : List Bool → Plan → ℕ → List (List ℕ) → List (Option PartyFault)
+input_checks numeric plan p texts =
+    joined (length plan.sessions) (λ s. session_checks numeric plan p s (slice_index_or texts s []))
+
+-- and what they give
+abbrev pub sessions_given : List Bool → Plan → ℕ → List (List ℕ) → List (List ℕ)
+sessions_given numeric plan p texts =
+    listed (length texts) (λ s. session_given numeric plan p s (slice_index_or texts s []))
 
 -- ---- tape or seed
 
@@ -154,22 +203,27 @@ pub record PartyForm : Type 0 where
   pub inputs : List (List ℕ)
   pub tapes : List (List ℕ)
 
--- what the fields give: the numbers of each session's inputs, and its tape, which is given or made of a seed
-unfoldable pub party_given : Plan → ℕ → Members → PartyForm
-party_given plan p fields =
-    record { inputs = map numbers_in (texts_at (codes "inputs") fields); tapes = tapes_of plan p fields }
+-- what the fields give: the words of each session's inputs, and its tape, which is given or made of a seed
+unfoldable pub party_given : List Bool → Plan → ℕ → Members → PartyForm
+party_given numeric plan p fields =
+    record {
+      inputs = sessions_given numeric plan p (texts_at (codes "inputs") fields);
+      tapes = tapes_of plan p fields;
+    }
 
 -- all checks, in order
-unfoldable pub party_checks : Plan → ℕ → Members → List (Option PartyFault)
-party_checks plan p fields =
+unfoldable pub party_checks : List Bool → Plan → ℕ → Members → List (Option PartyFault)
+party_checks numeric plan p fields =
     version_checks fields ++ (name_checks fields ++ (kind_checks fields ++ (count_checks (length plan.sessions) fields
-    ++ (input_checks plan p (texts_at (codes "inputs") fields) ++ random_checks plan p fields))))
+    ++ (input_checks numeric plan p (texts_at (codes "inputs") fields) ++ random_checks plan p fields))))
 
 -- what the fields stand for, or their first fault
-abbrev pub party_in_fields : Plan → ℕ → Option Members → Result PartyForm PartyFault
-party_in_fields plan p None = Err NotToml
-party_in_fields plan p (Some fields) = or_fault (first_fault (party_checks plan p fields)) (party_given plan p fields)
+abbrev pub party_in_fields : List Bool → Plan → ℕ → Option Members → Result PartyForm PartyFault
+party_in_fields numeric plan p None = Err NotToml
+party_in_fields numeric plan p (Some fields) =
+    or_fault (first_fault (party_checks numeric plan p fields)) (party_given numeric plan p fields)
 
--- what the bytes of the file of party p stand for, or their first fault
-unfoldable pub party_in : Plan → ℕ → List ℕ → Result PartyForm PartyFault
-party_in plan p bytes = party_in_fields plan p (document_of bytes)
+-- what the bytes of the file of party p stand for, or their first fault; `numeric` tells of each session whether its
+-- words are numbers
+unfoldable pub party_in : List Bool → Plan → ℕ → List ℕ → Result PartyForm PartyFault
+party_in numeric plan p bytes = party_in_fields numeric plan p (document_of bytes)

@@ -50,8 +50,8 @@ pub enum PartyFault {
     WrongKind {
         field: PartyField,
     },
-    /// In a session, there are other inputs than the party's input wires; without a session, other texts of inputs
-    /// than sessions.
+    /// In a session, there are other inputs than the party's input wires, or numbers than one for each lane of its
+    /// values; without a session, other texts of inputs than sessions.
     CountDiffers {
         session: Option<u32>,
         wanted: u64,
@@ -63,7 +63,8 @@ pub enum PartyFault {
         at: u64,
         cause: WordCause,
     },
-    /// A word of a session's inputs, or without a session of the tape, isn't in the ring.
+    /// A word of a session's inputs, or without a session of the tape, isn't in the ring; or a number of a session's
+    /// inputs has more bits than its value has wires.
     WordOutOfRing {
         session: Option<u32>,
         at: u64,

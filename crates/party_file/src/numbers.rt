@@ -1,7 +1,7 @@
 //! Words of inputs and of tapes.
 ghost use Rattle.std.specs.Prelude.{◌≡◌, ◌⊎◌, ◌^◌, [], ◌∷◌, Some, None, IfOk, IfErr};
 ghost use Rattle.list_laws.specs.Checks.{first_fault, or_fault};
-ghost use Rattle.party_file.specs.Table.{numbers_in, bad_words, first_outside, out_of_ring};
+ghost use Rattle.party_file.specs.Table.{numbers_in, bad_words, first_outside, out_of_ring, other_count};
 ghost use Rattle.party_file.specs.declared.fault.PartyFault.TheVariants.{Memory};
 
 use crate::fault::{PartyFault, WordCause};
@@ -54,6 +54,21 @@ pub fn check_ring(ring: Ring, session: Option<u32>, words: &[u64]) -> Result<(),
         PartyFault::WordOutOfRing {
             session,
             at: at as u64,
+        },
+    )
+}
+
+/// There are as many words as are wanted.
+pub fn check_count(session: u32, wanted: u64, words: &[u64]) -> Result<(), PartyFault>
+    ensures { result ≡ or_fault (first_fault (other_count wanted session words.now ∷ [])) tt }
+{
+    let found = words.len() as u64;
+    check(
+        found != wanted,
+        PartyFault::CountDiffers {
+            session: Some(session),
+            wanted,
+            found,
         },
     )
 }

@@ -20,26 +20,28 @@ use toml_fields::{document, items_at};
 fn read_fields(
     alloc: Global,
     table: &Table,
+    numeric: &[bool],
     plan: &Plan,
     party: u32,
 ) -> Result<PartyData, PartyFault>
     requires { party < plan.now.parties }
-    ensures passed { IfOk result (λ found. (first_fault (party_checks plan.now party (table_view table.now)) ≡ None)
-        × (form_of found ≡ party_given plan.now party (table_view table.now))) }
+    ensures passed { IfOk result (λ found.
+        (first_fault (party_checks numeric.now plan.now party (table_view table.now)) ≡ None)
+        × (form_of found ≡ party_given numeric.now plan.now party (table_view table.now))) }
     ensures fault { IfErr result (λ fault. (fault ≡ Memory)
-        ⊎ (first_fault (party_checks plan.now party (table_view table.now)) ≡ Some fault)) }
+        ⊎ (first_fault (party_checks numeric.now plan.now party (table_view table.now)) ≡ Some fault)) }
 {
     check_version(table)?;
     check_names(alloc, table)?;
     check_kinds(table)?;
     check_counts(table, plan.sessions())?;
-    let inputs = read_inputs(alloc, plan, party, items_at(table, "inputs"))?;
+    let inputs = read_inputs(alloc, numeric, plan, party, items_at(table, "inputs"))?;
     let tapes = read_tapes(alloc, plan, party, table)?;
     Ok(PartyData { inputs, tapes })
 }
 
 /// What the bytes of the file of a party of the plan give: words for the input wires that the party gives, and a tape
-/// for each session.
+/// for each session. The words of the sessions that are `numeric` are numbers.
 ///
 /// # Errors
 ///
@@ -47,16 +49,18 @@ fn read_fields(
 pub fn read_party(
     alloc: Global,
     bytes: &[u8],
+    numeric: &[bool],
     plan: &Plan,
     party: u32,
 ) -> Result<PartyData, PartyFault>
     requires { party < plan.now.parties }
-    ensures given { IfOk result (λ found. party_in plan.now party bytes.now ≡ Ok (form_of found)) }
+    ensures given { IfOk result (λ found. party_in numeric.now plan.now party bytes.now ≡ Ok (form_of found)) }
     ensures fits { IfOk result (λ found. FitsPlan plan.now party (form_of found)) }
-    ensures fault { IfErr result (λ fault. (fault ≡ Memory) ⊎ (party_in plan.now party bytes.now ≡ Err fault)) }
+    ensures fault { IfErr result (λ fault. (fault ≡ Memory)
+        ⊎ (party_in numeric.now plan.now party bytes.now ≡ Err fault)) }
 {
     match document(alloc, bytes)? {
-        Some(table) => read_fields(alloc, &table, plan, party),
+        Some(table) => read_fields(alloc, &table, numeric, plan, party),
         None => Err(PartyFault::NotToml),
     }
 }

@@ -14,6 +14,8 @@ use Rattle.circuit_model.specs.declared.fault.CircuitFault.{CircuitFault}
 use Rattle.circuit_model.specs.ToldFaults.{told_circuit_fault}
 use Rattle.expr_circuit.specs.declared.fault.ExprFault.{ExprFault}
 use Rattle.expr_circuit.specs.ToldFaults.{told_expr_fault}
+use Rattle.number_circuit.specs.declared.fault.NumberFault.{NumberFault}
+use Rattle.number_circuit.specs.ToldFaults.{told_number_fault}
 use Rattle.plan_faults.specs.declared.plan_fault.PlanFault.{PlanFault}
 use Rattle.plan_faults.specs.declared.part_fault.PartFault.{PartFault}
 use Rattle.plan_faults.specs.ToldFaults.{told_plan_fault, told_part_fault}
@@ -108,6 +110,10 @@ circuit_line file session f = refusal_line (codes "circuit") [] (of_session file
 -- a session's expressions
 unfoldable pub expressions_line : List ℕ → ℕ → ExprFault → List ℕ
 expressions_line file session f = refusal_line (codes "expr") [] (of_session file session) (told_expr_fault f)
+
+-- a session's program of numbers
+unfoldable pub numbers_line : List ℕ → ℕ → NumberFault → List ℕ
+numbers_line file session f = refusal_line (codes "numbers") [] (of_session file session) (told_number_fault f)
 
 unfoldable pub session_line : ℕ → PartFault → List ℕ
 session_line session f = refusal_line (codes "session") [] (in_session (Some session)) (told_part_fault f)

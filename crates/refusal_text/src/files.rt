@@ -2,6 +2,7 @@
 ghost use Rattle.std.specs.Prelude.{◌≡◌, IfOk, codes};
 ghost use Rattle.circuit_model.specs.ToldFaults.{told_circuit_fault};
 ghost use Rattle.expr_circuit.specs.ToldFaults.{told_expr_fault};
+ghost use Rattle.number_circuit.specs.ToldFaults.{told_number_fault};
 ghost use Rattle.job_file.specs.ToldFaults.{fault_part, told_job_fault};
 ghost use Rattle.refusal_text.specs.Lines.{too_long_line};
 
@@ -12,6 +13,7 @@ use expr_circuit::ExprFault;
 use fault_table::Entry;
 use job_file::JobFault;
 use job_limits::FILE_LIMIT;
+use number_circuit::NumberFault;
 use std::alloc::{AllocError, Global};
 
 /// The line of a file that is longer than the limit.
@@ -58,6 +60,20 @@ impl Fault for ExprFault {
 
     fn part(&self) -> &'static str {
         "expr"
+    }
+
+    fn entry(&self) -> Entry<'_> {
+        self.told()
+    }
+}
+
+impl Fault for NumberFault {
+    ghost part = { λ _. codes "numbers" };
+
+    ghost entry = { told_number_fault };
+
+    fn part(&self) -> &'static str {
+        "numbers"
     }
 
     fn entry(&self) -> Entry<'_> {

@@ -1,28 +1,33 @@
 -- The circuit of a session's file, and what the session makes of it.
 use Rattle.std.proofs.Common.{◌≡◌, ℕ, zero, suc, ◌+◌, ◌-◌, ◌<◌, ◌≤◌, Bool, true, false, cond, List, [], ◌∷◌, ◌++◌, length, map, Option, None, Some, refl, sym, ap, ◌∙◌, subst, arith}
-use Rattle.std.specs.Prelude.{slice_index, slice_index_or, slice_get}
+use Rattle.std.specs.Prelude.{slice_index, slice_index_or, slice_get, ◌==◌, not, nat_eq, pos}
+use Rattle.std.proofs.lemmas.Bool.{eqb-true}
 use Rattle.std.proofs.lemmas.Option.{slice_get_within}
 use Rattle.std.proofs.lemmas.List.{get_or_append_left, get_or_push, length-append}
-use Rattle.list_laws.specs.Lists.{total, listed}
+use Rattle.list_laws.specs.Lists.{total}
+use Rattle.list_laws.specs.Checks.{◌answers◌}
 use Rattle.list_laws.proofs.Totals.{total_eq}
 use Rattle.party_set.specs.Parties.{Members, Structure}
 use Rattle.circuit_model.specs.Netlists.{Netlist, IsCircuit, output_wires, plain as value}
 use Rattle.circuit_model.proofs.SetWires.{funext}
+use Rattle.circuit_model.specs.declared.fault.CircuitFault.TheVariants.{WrongRing}
 use Rattle.circuit_file.specs.CircuitFiles.{circuit_in}
 use Rattle.circuit_file.proofs.FileLaws.{file_grounded}
 use Rattle.expr_circuit.specs.Circuits.{netlist}
+use Rattle.number_compiler.specs.Circuits.{netlist as netlist_of_numbers}
 use Rattle.layer_order.specs.Orders.{ordered}
 use Rattle.layer_order.proofs.SortedGates.{ordered_computes, ordered_leaves}
 use Rattle.layer_laws.specs.Layers.{HasLayersOf}
 use Rattle.layer_laws.proofs.SortedSessions.{sorted_ahead_few, sorted_few, sorted_prepared_few}
-use Rattle.refusal_text.specs.Lines.{too_long_line}
+use Rattle.refusal_text.specs.Lines.{circuit_line, too_long_line}
 use Rattle.session_slots.specs.Sessions.{Session, no_session, readers, output_wire}
 use Rattle.session_slots.specs.SoundSessions.{IsWired}
 use Rattle.session_slots.specs.declared.values.KeptWire.{KeptWire}
+use Rattle.session_slots.specs.declared.values.InputValue.{InputValue}
 use Rattle.session_slots.specs.declared.values.Owner.{Owner}
 use Rattle.session_slots.specs.Carries.{kept_from, keeping}
 use Rattle.session_slots.proofs.KeptSessions.{keeping_at, length_keeping}
-use Rattle.job_session.specs.Parts.{carries_fault, part_fault, output_values}
+use Rattle.job_session.specs.Parts.{carries_fault, input_values, part_fault, output_values}
 use Rattle.job_session.proofs.ValueCounts.{readers_long}
 use Rattle.job_session.proofs.CircuitSessions.{counts_agree}
 use Rattle.plan_model.specs.Plans as plans
@@ -32,21 +37,23 @@ use Rattle.plan_faults.specs.Counts.{counts_fault}
 use Rattle.share_world.specs.Made.{made_of}
 use Rattle.share_world.specs.Worlds.{World, first_values, plain}
 use Rattle.share_world.proofs.MadeSessions.{made_has_values}
+use Rattle.value_words.specs.Turned.{is_numeric, shown_words}
+use Rattle.output_text.specs.OutText.{wire_word}
 use Rattle.view_text.specs.OutLines.{no_output, output_value, wires_before}
 use Rattle.job_file.specs.Forms.{JobForm, SessionForm}
 use Rattle.job_file.specs.Faults.{job_in}
 use Rattle.job_file.specs.Products.{are_prepared, come_ahead}
 use Rattle.job_file.specs.declared.layout.SessionLayout.{SessionLayout}
-use Rattle.job_file.specs.declared.layout.SessionLayout.TheVariants.{Gates, Expressions}
+use Rattle.job_file.specs.declared.layout.SessionLayout.TheVariants.{Gates, Expressions, Numbers}
 use Rattle.job_walk.specs.Names as file_names
 use Rattle.job_walk.specs.Verdict.{accepted, missing, refused, Then}
-use Rattle.job_walk.specs.JobOf.{Contents, bytes_of, file_at, groups_in, owner_of, CircuitOf, ExpressionsOf, SessionAt, SessionsAfter, PlanOf, Planned, PlannedOf, JobText, PlanAt}
+use Rattle.job_walk.specs.JobOf.{Contents, bytes_of, file_at, groups_in, has_layers, has_numbers, numeric_sessions, owner_of, CircuitOf, ExpressionsOf, ProgramOf, SessionAt, SessionsAfter, PlanOf, Planned, PlannedOf, JobText, PlanAt}
 use Rattle.job_walk.specs.NodeOf.{NodeForm}
 use Rattle.mpc_top.specs.WholeJobs.{WholeJob, whole_job, JobAt}
 use Rattle.mpc_top.proofs.WholeWorlds.{accepted_is, circuit_is_valid, jobs_are_whole, neither, sessions_count, was_ok, was_none}
 use Rattle.job_laws.specs.Documents.{IsJobForm}
 use Rattle.job_laws.proofs.ReadJobs.{good_job}
-use Rattle.walk_laws.specs.FileCircuits.{IsCircuitIn, HasCircuit, ComputesCircuit, RunsComputeCircuits, TakesFewBatches, LayersTakeFewBatches, NodesTakeFewBatches}
+use Rattle.walk_laws.specs.FileCircuits.{IsCircuitIn, HasCircuit, output_word, ComputesCircuit, RunsComputeCircuits, TakesFewBatches, LayersTakeFewBatches, NodesTakeFewBatches}
 use Rattle.walk_laws.proofs.Jobs.{text_once}
 use Rattle.walk_laws.proofs.NodeWorlds.{IsNode, node_read, nodes_are_parts}
 
@@ -99,16 +106,26 @@ module _ (files : Contents) (dir : List ℕ) (job : JobForm) where
 
 -- ---- the circuit of a session
 
+-- a ring that passed has words of one bit
+one_bit : (bits : ℕ) → (not (bits == 1) answers WrongRing (pos bits)) ≡ None → bits ≡ 1
+one_bit bits e = eqb-true bits 1 (either (nat_eq bits 1) e)
+  where
+    either : (b : Bool) → (not b answers WrongRing (pos bits)) ≡ None → b ≡ true
+    either true e = refl
+    either false e = cc
+
 circuit_told : (layout : SessionLayout) (file : List ℕ) (s bits : ℕ) (bytes : List ℕ) (c : Netlist) → CircuitOf layout file s bits bytes (accepted c) → IsCircuitIn layout bits bytes c
-unfolding CircuitOf ExpressionsOf
+unfolding CircuitOf ExpressionsOf ProgramOf Then
 circuit_told (Gates layout) file s bits bytes c read = was_ok _ (circuit_in layout bits bytes) c read
 circuit_told Expressions file s bits bytes c read = read
+circuit_told Numbers file s bits bytes c (passed, alone, read) = (one_bit bits (was_none _ (circuit_line file s) passed tt alone).0, read)
 
 -- its words are of the job's bits
 circuit_has_bits : (layout : SessionLayout) (bits : ℕ) (bytes : List ℕ) (c : Netlist) → 0 < bits → bits ≤ 64 → IsCircuitIn layout bits bytes c → c.bits ≡ bits
-unfolding netlist
+unfolding netlist netlist_of_numbers
 circuit_has_bits (Gates layout) bits bytes c some few is = (file_grounded layout bits bytes c some few is).words
 circuit_has_bits Expressions bits bytes c some few is = ap (λ (c : Netlist). c.bits) is.made
+circuit_has_bits Numbers bits bytes c some few (one, is) = ap (λ (c : Netlist). c.bits) is.made ∙ sym one
 
 -- what the session of a form is
 pub record IsOfCircuit (files : Contents) (dir : List ℕ) (job : JobForm) (form : SessionForm) (x : Session) : Type 0 where
@@ -118,18 +135,18 @@ pub record IsOfCircuit (files : Contents) (dir : List ℕ) (job : JobForm) (form
   pub bits : circuit.bits ≡ job.bits
   pub owned : length (map owner_of form.owners) ≡ length circuit.inputs
   pub read : length (groups_in (length job.names) form.readers) ≡ length circuit.outputs
-  pub made : x ≡ made_of (ordered form.layered_gates circuit) (map owner_of form.owners) (groups_in (length job.names) form.readers) (are_prepared form.products) (come_ahead form.products) []
+  pub made : x ≡ made_of (ordered (has_layers form) circuit) (map owner_of form.owners) (groups_in (length job.names) form.readers) (are_prepared form.products) (come_ahead form.products) []
 
 of_circuit : (files : Contents) (dir : List ℕ) (job : JobForm) (before : List Session) (form : SessionForm) (x : Session) → 0 < job.bits → job.bits ≤ 64 → SessionAt files dir job before form (accepted x) → IsOfCircuit files dir job form x
 unfolding SessionAt Then file_at
 of_circuit files dir job before form x some few (bytes, there, (c, told, e)) =
     let owners : List Owner = map owner_of form.owners in
     let groups : List Members = groups_in (length job.names) form.readers in
-    let sorted : Netlist = ordered form.layered_gates c in
+    let sorted : Netlist = ordered (has_layers form) c in
     let found = was_none (part_fault sorted owners groups before) _ x (made_of sorted owners groups (are_prepared form.products) (come_ahead form.products) []) e in
     let faults = neither (counts_fault (length sorted.inputs) (length owners) (length sorted.outputs) (length groups)) (carries_fault before sorted.inputs owners) found.0 in
     let counts = counts_agree (length sorted.inputs) (length owners) (length sorted.outputs) (length groups) faults.0 in
-    let left = ordered_leaves form.layered_gates c in
+    let left = ordered_leaves (has_layers form) c in
     record {
       circuit = c;
       has = record { text = bytes; file = bytes_there (files (file_names.path_of dir form.circuit)) form.circuit bytes (sym there); is = circuit_told form.layout form.circuit (length before) job.bits bytes c told };
@@ -140,6 +157,12 @@ of_circuit files dir job before form x some few (bytes, there, (c, told, e)) =
       made = found.1;
     }
 
+-- what is told of each form
+numeric_at : (forms : List SessionForm) (s : ℕ) (form : SessionForm) → slice_get forms s ≡ Some form → is_numeric (map has_numbers forms) s ≡ has_numbers form
+numeric_at [] s form there = cc
+numeric_at (first ∷ forms) zero form there = (let same : first ≡ form = cc in ap has_numbers same)
+numeric_at (first ∷ forms) (suc s) form there = numeric_at forms s form there
+
 -- ---- its output values
 
 width_is : (ws : List ℕ) (gs : List Members) (v : ℕ) → length gs ≡ length ws → (slice_index_or (output_values ws gs) v no_output).width ≡ slice_index ws v
@@ -148,16 +171,18 @@ width_is (w ∷ ws) [] v e = absurd (omega (arith, e))
 width_is (w ∷ ws) (g ∷ gs) zero e = refl
 width_is (w ∷ ws) (g ∷ gs) (suc v) e = width_is ws gs v (omega (arith, e))
 
+input_widths_are : (ws : List ℕ) (ps : List Owner) → length ps ≡ length ws → map (λ (value : InputValue). value.width) (input_values ws ps) ≡ ws
+input_widths_are [] ps e = refl
+input_widths_are (w ∷ ws) [] e = absurd (omega (arith, e))
+input_widths_are (w ∷ ws) (p ∷ ps) e = ap (λ more. w ∷ more) (input_widths_are ws ps (omega (arith, e)))
+
 many_values : (ws : List ℕ) (gs : List Members) → length gs ≡ length ws → length (output_values ws gs) ≡ length ws
 many_values [] gs e = refl
 many_values (w ∷ ws) [] e = absurd (omega (arith, e))
 many_values (w ∷ ws) (g ∷ gs) e = ap suc (many_values ws gs (omega (arith, e)))
 
-listed_eq : (n : ℕ) (f g : ℕ → ℕ) → ((i : ℕ) → f i ≡ g i) → listed n f ≡ listed n g
-listed_eq n f g h = ap (listed n) (funext f g h)
-
 -- a session that is made of a circuit, its gates in layers or not, computes it
-module _ (w : World) (s : ℕ) (c : Netlist) (layers : Bool) (given : List Owner) (read : List Members) (prepared ahead : Bool) (kept : List KeptWire) (earlier : CarriesEarlier w.plan) (valid : IsCircuit c)
+module _ (numeric : List Bool) (w : World) (s : ℕ) (c : Netlist) (layers : Bool) (given : List Owner) (read : List Members) (prepared ahead : Bool) (kept : List KeptWire) (earlier : CarriesEarlier w.plan) (valid : IsCircuit c)
     (is : session w.plan s ≡ made_of (ordered layers c) given read prepared ahead kept) (bits : w.plan.bits ≡ c.bits) (owned : length given ≡ length c.inputs) (many : length read ≡ length c.outputs) where
   abbrev made : Session
   made = made_of (ordered layers c) given read prepared ahead kept
@@ -174,6 +199,11 @@ module _ (w : World) (s : ℕ) (c : Netlist) (layers : Bool) (given : List Owner
   outputs_are : (session w.plan s).outputs ≡ output_values c.outputs read
   outputs_are = ap (λ (x : Session). x.outputs) is ∙ ap (λ ws. output_values ws read) (ordered_leaves layers c).3
 
+  inputs_are : map (λ (value : InputValue). value.width) (session w.plan s).inputs ≡ c.inputs
+  inputs_are =
+      ap (λ (x : Session). map (λ (value : InputValue). value.width) x.inputs) is ∙ ap (λ ws. map (λ (value : InputValue). value.width) (input_values ws given)) (ordered_leaves layers c).2
+      ∙ input_widths_are c.inputs given owned
+
   width_at : (v : ℕ) → (output_value (session w.plan s) v).width ≡ slice_index c.outputs v
   width_at v = ap (λ os. (slice_index_or os v no_output).width) outputs_are ∙ width_is c.outputs read v many
 
@@ -183,15 +213,19 @@ module _ (w : World) (s : ℕ) (c : Netlist) (layers : Bool) (given : List Owner
       let long : length (readers made) ≡ output_wires c = ap (λ ws. length (readers (record made { outputs = output_values ws read }))) left.3 ∙ readers_long c.outputs read many in
       ap (λ (x : Session). output_wire x o) is ∙ ap (λ n. n - length (readers made) + o) left.1 ∙ ap (λ n. c.wires - n + o) long
 
-  pub computes : ComputesCircuit w s c
+  word_at : (v i : ℕ) → wire_word w s (wires_before (session w.plan s) v) i ≡ output_word c first v i
+  word_at v i =
+      ap (plain w s) (first_output (wires_before (session w.plan s) v + i) ∙ ap (λ n. c.wires - output_wires c + (n + i)) (total_eq v _ (slice_index c.outputs) (λ u below. width_at u)))
+      ∙ plain_is (c.wires - output_wires c + (total v (slice_index c.outputs) + i))
+
+  pub computes : ComputesCircuit numeric w s c
   computes = record {
     values = plain_is;
+    inputs = inputs_are;
     count = ap length outputs_are ∙ many_values c.outputs read many;
     words = λ v l.
-        ap (λ n. listed n (λ i. plain w s (output_wire (session w.plan s) (wires_before (session w.plan s) v + i)))) (width_at v)
-        ∙ listed_eq (slice_index c.outputs v) _ _ (λ i.
-        ap (plain w s) (first_output (wires_before (session w.plan s) v + i) ∙ ap (λ n. c.wires - output_wires c + (n + i)) (total_eq v _ (slice_index c.outputs) (λ u below. width_at u)))
-        ∙ plain_is (c.wires - output_wires c + (total v (slice_index c.outputs) + i)));
+        ap (λ n. shown_words numeric s w.plan.bits n (wire_word w s (wires_before (session w.plan s) v))) (width_at v)
+        ∙ ap (shown_words numeric s w.plan.bits (slice_index c.outputs v)) (funext _ (output_word c first v) (word_at v));
   }
 
 -- and in layers it takes few batches
@@ -225,7 +259,7 @@ planned files dir job structure sessions plan good is read s form there =
       within = (let long = length_keeping sessions in let as_long = ap (λ (p : Plan). length p.sessions) is in omega (arith, below, long, as_long));
     }
 
-few_planned : (files : Contents) (dir : List ℕ) (job : JobForm) (form : SessionForm) (plan : Plan) (s : ℕ) → IsSound plan → form.layered_gates ≡ true → IsPlanned files dir job form plan s
+few_planned : (files : Contents) (dir : List ℕ) (job : JobForm) (form : SessionForm) (plan : Plan) (s : ℕ) → IsSound plan → has_layers form ≡ true → IsPlanned files dir job form plan s
     → (c : Netlist) × HasCircuit files dir job.bits form c × TakesFewBatches (session plan s) c
 few_planned files dir job form plan s sound layers p =
     let o = p.of in
@@ -252,7 +286,7 @@ module _ (files : Contents) (dir : List ℕ) (asked : Option (List ℕ)) (job : 
           ∙ ap (λ (j : JobForm). plan_of j.bits structure (keeping sessions)) one in
           planned files dir job structure sessions whole.world.plan good world (subst (λ (j : JobForm). SessionsAfter files dir j [] j.sessions (accepted sessions)) one read) s form there
 
-  run_has_bits : whole.world.plan.bits ≡ job.bits
+  pub run_has_bits : whole.world.plan.bits ≡ job.bits
   unfolding JobAt PlanAt JobText PlannedOf PlanOf Then
   run_has_bits = go text at
     where
@@ -261,18 +295,30 @@ module _ (files : Contents) (dir : List ℕ) (asked : Option (List ℕ)) (job : 
           let one : job' ≡ job = accepted_is job' job (text_once false files dir (accepted job') (accepted job) text' text) in
           ap (λ (whole : WholeJob). whole.world.plan.bits) (accepted_is whole (whole_job planned' forms) is) ∙ ap (λ (p : Planned). p.plan.bits) (accepted_is planned' _ e) ∙ ap (λ (p : Plan). p.bits) same ∙ ap (λ (j : JobForm). j.bits) one
 
-  pub run_computes : (s : ℕ) (form : SessionForm) → slice_get job.sessions s ≡ Some form → (c : Netlist) × HasCircuit files dir job.bits form c × ComputesCircuit whole.world s c
+  -- the words of a session are numbers where its layout says so
+  pub run_numeric : (s : ℕ) (form : SessionForm) → slice_get job.sessions s ≡ Some form → is_numeric whole.numeric s ≡ has_numbers form
+  unfolding JobAt PlanAt JobText PlannedOf PlanOf Then
+  run_numeric s form there = go text at
+    where
+      go : JobText false files dir (accepted job) → JobAt files dir asked (accepted whole) → is_numeric whole.numeric s ≡ has_numbers form
+      go text (planned', (job', text', (group, g, (structure, found, (sessions, read, (plan, (same, within), e))))), (forms, given, is)) =
+          let one : job' ≡ job = accepted_is job' job (text_once false files dir (accepted job') (accepted job) text' text) in
+          let numeric : whole.numeric ≡ numeric_sessions job =
+          ap (λ (whole : WholeJob). whole.numeric) (accepted_is whole (whole_job planned' forms) is) ∙ ap (λ (p : Planned). p.numeric) (accepted_is planned' _ e) ∙ ap numeric_sessions one in
+          ap (λ ns. is_numeric ns s) numeric ∙ numeric_at job.sessions s form there
+
+  pub run_computes : (s : ℕ) (form : SessionForm) → slice_get job.sessions s ≡ Some form → (c : Netlist) × HasCircuit files dir job.bits form c × ComputesCircuit whole.numeric whole.world s c
   run_computes s form there =
       let p = run_planned s form there in
       let o = p.of in
       let c = o.circuit in (
         c,
         o.has,
-        computes whole.world s c form.layered_gates (map owner_of form.owners) (groups_in (length job.names) form.readers) (are_prepared form.products) (come_ahead form.products) p.kept sound.earlier o.valid
+        computes whole.numeric whole.world s c (has_layers form) (map owner_of form.owners) (groups_in (length job.names) form.readers) (are_prepared form.products) (come_ahead form.products) p.kept sound.earlier o.valid
             (p.at ∙ ap (λ (x : Session). record x { kept = p.kept }) o.made) (run_has_bits ∙ sym o.bits) o.owned o.read,
       )
 
-  pub run_takes_few : (s : ℕ) (form : SessionForm) → slice_get job.sessions s ≡ Some form → form.layered_gates ≡ true → (c : Netlist) × HasCircuit files dir job.bits form c × TakesFewBatches (session whole.world.plan s) c
+  pub run_takes_few : (s : ℕ) (form : SessionForm) → slice_get job.sessions s ≡ Some form → has_layers form ≡ true → (c : Netlist) × HasCircuit files dir job.bits form c × TakesFewBatches (session whole.world.plan s) c
   run_takes_few s form there layers = few_planned files dir job form whole.world.plan s sound layers (run_planned s form there)
 
 pub runs_compute_circuits : RunsComputeCircuits

@@ -5,13 +5,13 @@ use Rattle.session_slots.specs.Sessions.{Session}
 use Rattle.plan_model.specs.Plans.{Plan}
 use Rattle.job_file.specs.Forms.{JobForm, SessionForm}
 use Rattle.job_file.specs.declared.layout.SessionLayout.{SessionLayout}
-use Rattle.job_file.specs.declared.layout.SessionLayout.TheVariants.{Gates, Expressions}
+use Rattle.job_file.specs.declared.layout.SessionLayout.TheVariants.{Gates, Expressions, Numbers}
 use Rattle.party_file.specs.Table.{PartyForm}
 use Rattle.command_words.specs.Commands.{CommandForm, run, check, pair, node, sample, audit}
 use Rattle.share_world.specs.Worlds.{view}
 use Rattle.view_check.proofs.ToldViews.{told_views}
 use Rattle.job_walk.specs.Verdict.{EndsOnce}
-use Rattle.job_walk.specs.JobOf.{Contents, JobText, GroupOf, StructureOf, CircuitOf, SessionAt, SessionsAfter, PlannedOf, PlanAt, PartyAt, PartiesAfter}
+use Rattle.job_walk.specs.JobOf.{Contents, JobText, GroupOf, StructureOf, numeric_sessions, CircuitOf, SessionAt, SessionsAfter, PlannedOf, PlanAt, PartyAt, PartiesAfter}
 use Rattle.mpc_top.specs.WholeJobs.{JobAt, OtherAt, PairAt}
 use Rattle.job_walk.specs.NodeOf.{NodeAt}
 use Rattle.mpc_top.specs.Audits.{AuditAt}
@@ -19,7 +19,7 @@ use Rattle.mpc_top.specs.Due.{DueOf, IsDue}
 use Rattle.walk_laws.proofs.Walks.{ends_once, then_once, then_once_of}
 use Rattle.walk_laws.proofs.Audits.{judged_once}
 use Rattle.mpc_top.proofs.WholeWorlds.{jobs_are_whole, jobs_are_named}
-use Rattle.walk_laws.proofs.Plans.{expressions_once, groups_once, q2_once, plan_once}
+use Rattle.walk_laws.proofs.Plans.{expressions_once, program_once, groups_once, q2_once, plan_once}
 
 pub structure_once : (job : JobForm) → EndsOnce (StructureOf job)
 unfolding StructureOf
@@ -38,6 +38,7 @@ circuit_once : (layout : SessionLayout) (file : List ℕ) (s bits : ℕ) (bytes 
 unfolding CircuitOf
 circuit_once (Gates layout) file s bits bytes = ends_once _
 circuit_once Expressions file s bits bytes = expressions_once _ bits bytes
+circuit_once Numbers file s bits bytes = then_once _ _ (ends_once _) (λ passed. program_once _ bytes)
 
 session_once : (files : Contents) (dir : List ℕ) (job : JobForm) (before : List Session) (form : SessionForm) → EndsOnce (SessionAt files dir job before form)
 unfolding SessionAt
@@ -57,34 +58,34 @@ unfolding PlanAt
 plan_at_once files dir asked =
     then_once _ _ (text_once false files dir) (λ job. then_once _ _ (group_once job.names asked) (λ group. then_once _ _ (structure_once job) (planned_once files dir job group)))
 
-pub party_once : (files : Contents) (dir : List ℕ) (plan : Plan) (p : ℕ) (name : List ℕ) → EndsOnce (PartyAt files dir plan p name)
+pub party_once : (files : Contents) (dir : List ℕ) (numeric : List Bool) (plan : Plan) (p : ℕ) (name : List ℕ) → EndsOnce (PartyAt files dir numeric plan p name)
 unfolding PartyAt
-party_once files dir plan p name = then_once _ _ (ends_once _) (λ bytes. ends_once _)
+party_once files dir numeric plan p name = then_once _ _ (ends_once _) (λ bytes. ends_once _)
 
-parties_once : (files : Contents) (dir : List ℕ) (plan : Plan) (before : List PartyForm) (names : List (List ℕ)) → EndsOnce (PartiesAfter files dir plan before names)
+parties_once : (files : Contents) (dir : List ℕ) (numeric : List Bool) (plan : Plan) (before : List PartyForm) (names : List (List ℕ)) → EndsOnce (PartiesAfter files dir numeric plan before names)
 unfolding PartiesAfter
-parties_once files dir plan before [] = ends_once _
-parties_once files dir plan before (name ∷ names) = then_once _ _ (party_once files dir plan (length before) name) (λ party. parties_once files dir plan (before ++ party ∷ []) names)
+parties_once files dir numeric plan before [] = ends_once _
+parties_once files dir numeric plan before (name ∷ names) = then_once _ _ (party_once files dir numeric plan (length before) name) (λ party. parties_once files dir numeric plan (before ++ party ∷ []) names)
 
 job_once : (files : Contents) (dir : List ℕ) (asked : Option (List ℕ)) → EndsOnce (JobAt files dir asked)
 unfolding JobAt
-job_once files dir asked = then_once _ _ (plan_at_once files dir asked) (λ planned. then_once _ _ (parties_once files dir planned.plan [] planned.names) (λ parties. ends_once _))
+job_once files dir asked = then_once _ _ (plan_at_once files dir asked) (λ planned. then_once _ _ (parties_once files dir planned.numeric planned.plan [] planned.names) (λ parties. ends_once _))
 
-other_once : (files : Contents) (dir : List ℕ) (plan : Plan) (names : List (List ℕ)) (inputs : List (List (List ℕ))) → EndsOnce (OtherAt files dir plan names inputs)
+other_once : (files : Contents) (dir : List ℕ) (numeric : List Bool) (plan : Plan) (names : List (List ℕ)) (inputs : List (List (List ℕ))) → EndsOnce (OtherAt files dir numeric plan names inputs)
 unfolding OtherAt
-other_once files dir plan names inputs = then_once _ _ (ends_once _) (λ bytes. ends_once _)
+other_once files dir numeric plan names inputs = then_once _ _ (ends_once _) (λ bytes. ends_once _)
 
 pair_once : (files : Contents) (dir asked : List ℕ) → EndsOnce (PairAt files dir asked)
 unfolding PairAt
 pair_once files dir asked =
-    then_once _ _ (job_once files dir (Some asked)) (λ job. then_once _ _ (other_once files dir job.world.plan job.names job.world.inputs) (λ other. ends_once _))
+    then_once _ _ (job_once files dir (Some asked)) (λ job. then_once _ _ (other_once files dir job.numeric job.world.plan job.names job.world.inputs) (λ other. ends_once _))
 
 node_once : (files : Contents) (dir name : List ℕ) → EndsOnce (NodeAt files dir name)
 unfolding NodeAt
 node_once files dir name =
     then_once _ _ (text_once true files dir) (λ job. then_once _ _ (ends_once _) (λ me. then_once _ _ (structure_once job) (λ groups.
     then_once _ _ (sessions_once files dir job [] job.sessions) (λ sessions. then_once _ _ (plan_once job _) (λ plan.
-    then_once _ _ (party_once files dir plan me name) (λ given. ends_once _))))))
+    then_once _ _ (party_once files dir (numeric_sessions job) plan me name) (λ given. ends_once _))))))
 
 audit_once : (files : Contents) (dir : List ℕ) → EndsOnce (AuditAt files dir)
 unfolding AuditAt

@@ -25,7 +25,7 @@ use Rattle.party_file.specs.Forms.{FitsPlan}
 use Rattle.share_world.specs.Worlds.{World}
 use Rattle.job_run.specs.Parties.{world_of}
 use Rattle.job_walk.specs.Verdict.{Then, accepted}
-use Rattle.job_walk.specs.JobOf.{Contents, JobText, PartiesAfter, PartyAt, PlanAt, Planned, PlannedOf, PlanOf, SessionAt, SessionsAfter, StructureOf, bytes_of, file_at}
+use Rattle.job_walk.specs.JobOf.{Contents, JobText, PartiesAfter, PartyAt, PlanAt, Planned, PlannedOf, PlanOf, SessionAt, SessionsAfter, StructureOf, bytes_of, file_at, numeric_sessions}
 use Rattle.job_walk.specs.Names as file_names
 use Rattle.job_walk.specs.NodeOf.{NodeForm, NodeAt, circuit_files, frames_of, job_digest, party_of}
 use Rattle.job_walk.specs.FileLogs.{all_bytes_at}
@@ -60,7 +60,7 @@ pub record IsNode (files : Contents) (dir name : List ℕ) (node : NodeForm) : T
   pub read : SessionsAfter files dir job [] job.sessions (accepted sessions)
   pub plan_is : PlanOf job (plan_of job.bits groups (keeping sessions)) (accepted (plan_of job.bits groups (keeping sessions)))
   pub given : PartyForm
-  pub party : PartyAt files dir (plan_of job.bits groups (keeping sessions)) me name (accepted given)
+  pub party : PartyAt files dir (numeric_sessions job) (plan_of job.bits groups (keeping sessions)) me name (accepted given)
   pub is : node
       ≡ record {
         names = job.names;
@@ -70,6 +70,7 @@ pub record IsNode (files : Contents) (dir name : List ℕ) (node : NodeForm) : T
         view = job.own_views;
         me = me;
         plan = plan_of job.bits groups (keeping sessions);
+        numeric = numeric_sessions job;
         given = given;
         digest = job_digest files dir job;
       }
@@ -91,7 +92,7 @@ node_read files dir name node (job, text, (me, m, (s, found, (sessions, read, (p
   read = read;
   plan_is = (refl, within);
   given = given;
-  party = subst (λ (plan : Plan). PartyAt files dir plan me name (accepted given)) same party;
+  party = subst (λ (plan : Plan). PartyAt files dir (numeric_sessions job) plan me name (accepted given)) same party;
   is =
       accepted_is node _ e
       ∙ ap (λ (plan : Plan). record {
@@ -102,6 +103,7 @@ node_read files dir name node (job, text, (me, m, (s, found, (sessions, read, (p
         view = job.own_views;
         me = me;
         plan = plan;
+        numeric = numeric_sessions job;
         given = given;
         digest = job_digest files dir job;
       }) same;
@@ -131,7 +133,7 @@ module _ (files : Contents) (dir name : List ℕ) (node : NodeForm) (of : IsNode
   is_node_part = subst (λ (node : NodeForm). IsNodePart (node_part node)) (sym of.is) (record {
     sound = plan_sound;
     party = me_below;
-    fits = party_fits files dir its_plan of.me name of.given of.party;
+    fits = party_fits files dir (numeric_sessions of.job) its_plan of.me name of.given of.party;
     digest = length-sha256 (joined_files (all_bytes_at files dir (file_names.job_file ∷ circuit_files of.job)));
   })
 
@@ -140,9 +142,9 @@ nodes_are_parts files dir name node at = is_node_part files dir name node (node_
 
 -- ---- the parties of a folder
 
-module _ (files : Contents) (dir : List ℕ) (plan : Plan) where
+module _ (files : Contents) (dir : List ℕ) (numeric : List Bool) (plan : Plan) where
   -- the forms that were read stay
-  forms_stay : (before : List PartyForm) (names : List (List ℕ)) (forms : List PartyForm) → PartiesAfter files dir plan before names (accepted forms)
+  forms_stay : (before : List PartyForm) (names : List (List ℕ)) (forms : List PartyForm) → PartiesAfter files dir numeric plan before names (accepted forms)
       → (p : ℕ) → p < length before → slice_index_or forms p no_form ≡ slice_index_or before p no_form
   unfolding PartiesAfter Then
   forms_stay before [] forms e p l = ap (λ xs. slice_index_or xs p no_form) (accepted_is forms before e)
@@ -150,27 +152,27 @@ module _ (files : Contents) (dir : List ℕ) (plan : Plan) where
       forms_stay (before ++ form ∷ []) names forms rest p (omega (arith, l, length-append before (form ∷ []))) ∙ get_or_append_left before (form ∷ []) no_form p l
 
   -- each form is what the party of that name gives
-  form_at : (before : List PartyForm) (names : List (List ℕ)) (forms : List PartyForm) → PartiesAfter files dir plan before names (accepted forms)
-      → (p : ℕ) → p < length names → PartyAt files dir plan (length before + p) (slice_index_or names p []) (accepted (slice_index_or forms (length before + p) no_form))
+  form_at : (before : List PartyForm) (names : List (List ℕ)) (forms : List PartyForm) → PartiesAfter files dir numeric plan before names (accepted forms)
+      → (p : ℕ) → p < length names → PartyAt files dir numeric plan (length before + p) (slice_index_or names p []) (accepted (slice_index_or forms (length before + p) no_form))
   unfolding PartiesAfter Then
   form_at before [] forms e p l = absurd (omega (arith, l))
   form_at before (name ∷ names) forms (form, at, rest) zero l =
       let here : length before + 0 ≡ length before = omega arith in
       let kept : form ≡ slice_index_or forms (length before) no_form =
       sym (forms_stay (before ++ form ∷ []) names forms rest (length before) (omega (arith, length-append before (form ∷ []))) ∙ get_or_push before form no_form (length before) refl) in
-      subst (λ n. PartyAt files dir plan n name (accepted (slice_index_or forms n no_form))) (sym here) (subst (λ (x : PartyForm). PartyAt files dir plan (length before) name (accepted x)) kept at)
+      subst (λ n. PartyAt files dir numeric plan n name (accepted (slice_index_or forms n no_form))) (sym here) (subst (λ (x : PartyForm). PartyAt files dir numeric plan (length before) name (accepted x)) kept at)
   form_at before (name ∷ names) forms (form, at, rest) (suc p) l =
       let next : length (before ++ form ∷ []) + p ≡ length before + suc p = omega (arith, length-append before (form ∷ [])) in
-      subst (λ n. PartyAt files dir plan n (slice_index_or names p []) (accepted (slice_index_or forms n no_form))) next (form_at (before ++ form ∷ []) names forms rest p (omega (arith, l)))
+      subst (λ n. PartyAt files dir numeric plan n (slice_index_or names p []) (accepted (slice_index_or forms n no_form))) next (form_at (before ++ form ∷ []) names forms rest p (omega (arith, l)))
 
-  form_of_all : (names : List (List ℕ)) (forms : List PartyForm) → PartiesAfter files dir plan [] names (accepted forms)
-      → (p : ℕ) → p < length names → PartyAt files dir plan p (slice_index_or names p []) (accepted (slice_index_or forms p no_form))
+  pub form_of_all : (names : List (List ℕ)) (forms : List PartyForm) → PartiesAfter files dir numeric plan [] names (accepted forms)
+      → (p : ℕ) → p < length names → PartyAt files dir numeric plan p (slice_index_or names p []) (accepted (slice_index_or forms p no_form))
   form_of_all names forms read p l =
       let from_none : length {A = PartyForm} [] + p ≡ p = omega arith in
-      subst (λ n. PartyAt files dir plan n (slice_index_or names p []) (accepted (slice_index_or forms n no_form))) from_none (form_at [] names forms read p l)
+      subst (λ n. PartyAt files dir numeric plan n (slice_index_or names p []) (accepted (slice_index_or forms n no_form))) from_none (form_at [] names forms read p l)
 
   -- as many as there are names
-  forms_count : (before : List PartyForm) (names : List (List ℕ)) (forms : List PartyForm) → PartiesAfter files dir plan before names (accepted forms) → length forms ≡ length before + length names
+  pub forms_count : (before : List PartyForm) (names : List (List ℕ)) (forms : List PartyForm) → PartiesAfter files dir numeric plan before names (accepted forms) → length forms ≡ length before + length names
   unfolding PartiesAfter Then
   forms_count before [] forms e = ap length (accepted_is forms before e) ∙ omega arith
   forms_count before (name ∷ names) forms (form, at, rest) = omega (arith, forms_count (before ++ form ∷ []) names forms rest, length-append before (form ∷ []))
@@ -178,7 +180,7 @@ module _ (files : Contents) (dir : List ℕ) (plan : Plan) where
 -- ---- a party of a list of forms
 
 module _ (plan : Plan) (forms : List PartyForm) (p : ℕ) (l : p < length forms) where
-  inputs_are : slice_index_or (world_of plan forms).inputs p [] ≡ (slice_index_or forms p no_form).inputs
+  pub inputs_are : slice_index_or (world_of plan forms).inputs p [] ≡ (slice_index_or forms p no_form).inputs
   inputs_are = get_or-map (λ (party : PartyForm). party.inputs) forms p no_form [] l
 
   tape_is : slice_index_or (world_of plan forms).tapes p [] ≡ concat (slice_index_or forms p no_form).tapes
@@ -197,22 +199,24 @@ same_job files dir node other job job' (bytes, there, e) (bytes', there', e') =
     good.is ∙ ap job_form same ∙ sym good'.is
 
 -- what a job of a folder is made of
-record IsMade (files : Contents) (dir : List ℕ) (job : WholeJob) : Type 0 where
-  form : JobForm
-  text : JobText false files dir (accepted form)
-  groups : Structure
-  structure_is : StructureOf form (accepted groups)
-  sessions : List Session
-  read : SessionsAfter files dir form [] form.sessions (accepted sessions)
-  forms : List PartyForm
-  parties : PartiesAfter files dir (plan_of form.bits groups (keeping sessions)) [] form.names (accepted forms)
-  is : job.world ≡ world_of (plan_of form.bits groups (keeping sessions)) forms
+pub record IsMade (files : Contents) (dir : List ℕ) (job : WholeJob) : Type 0 where
+  pub form : JobForm
+  pub text : JobText false files dir (accepted form)
+  pub groups : Structure
+  pub structure_is : StructureOf form (accepted groups)
+  pub sessions : List Session
+  pub read : SessionsAfter files dir form [] form.sessions (accepted sessions)
+  pub forms : List PartyForm
+  pub parties : PartiesAfter files dir (numeric_sessions form) (plan_of form.bits groups (keeping sessions)) [] form.names (accepted forms)
+  pub names : job.names ≡ form.names
+  pub numeric : job.numeric ≡ numeric_sessions form
+  pub is : job.world ≡ world_of (plan_of form.bits groups (keeping sessions)) forms
 
-made : (files : Contents) (dir : List ℕ) (asked : Option (List ℕ)) (job : WholeJob) → JobAt files dir asked (accepted job) → IsMade files dir job
+pub made : (files : Contents) (dir : List ℕ) (asked : Option (List ℕ)) (job : WholeJob) → JobAt files dir asked (accepted job) → IsMade files dir job
 unfolding JobAt PlanAt PlannedOf PlanOf Then
 made files dir asked job (planned, (form, text, (group, g, (s, found, (sessions, read, (plan, (same, within), e))))), (forms, parties, last)) =
-    let of : planned ≡ record { names = form.names; group = group; plan = plan_of form.bits s (keeping sessions) } =
-    accepted_is planned _ e ∙ ap (λ (plan : Plan). record { names = form.names; group = group; plan = plan }) same in
+    let of : planned ≡ record { names = form.names; group = group; plan = plan_of form.bits s (keeping sessions); numeric = numeric_sessions form } =
+    accepted_is planned _ e ∙ ap (λ (plan : Plan). record { names = form.names; group = group; plan = plan; numeric = numeric_sessions form }) same in
     record {
       form = form;
       text = text;
@@ -221,7 +225,9 @@ made files dir asked job (planned, (form, text, (group, g, (s, found, (sessions,
       sessions = sessions;
       read = read;
       forms = forms;
-      parties = subst (λ (planned : Planned). PartiesAfter files dir planned.plan [] planned.names (accepted forms)) of parties;
+      parties = subst (λ (planned : Planned). PartiesAfter files dir planned.numeric planned.plan [] planned.names (accepted forms)) of parties;
+      names = ap (λ (job : WholeJob). job.names) (accepted_is job (whole_job planned forms) last) ∙ ap (λ (planned : Planned). planned.names) of;
+      numeric = ap (λ (job : WholeJob). job.numeric) (accepted_is job (whole_job planned forms) last) ∙ ap (λ (planned : Planned). planned.numeric) of;
       is = ap (λ (job : WholeJob). job.world) (accepted_is job (whole_job planned forms) last) ∙ ap (λ (planned : Planned). world_of planned.plan forms) of;
     }
 
@@ -255,12 +261,14 @@ module _ (files : Contents) (dir name : List ℕ) (node : NodeForm) (job : Whole
   given_is : of.given ≡ slice_index_or m.forms of.me no_form
   given_is =
       accepted_is of.given _
-      (party_once files dir made_plan of.me name (accepted of.given) (accepted (slice_index_or m.forms of.me no_form))
-      (subst (λ (plan : Plan). PartyAt files dir plan of.me name (accepted of.given)) plans_are of.party)
-      (subst (λ text. PartyAt files dir made_plan of.me text (accepted (slice_index_or m.forms of.me no_form))) its_name (form_of_all files dir made_plan m.form.names m.forms m.parties of.me below)))
+      (party_once files dir (numeric_sessions m.form) made_plan of.me name (accepted of.given) (accepted (slice_index_or m.forms of.me no_form))
+      (subst (λ (plan : Plan). PartyAt files dir (numeric_sessions m.form) plan of.me name (accepted of.given)) plans_are
+      (subst (λ (j : JobForm). PartyAt files dir (numeric_sessions j) (plan_of of.job.bits of.groups (keeping of.sessions)) of.me name (accepted of.given)) form_is of.party))
+      (subst (λ text. PartyAt files dir (numeric_sessions m.form) made_plan of.me text (accepted (slice_index_or m.forms of.me no_form))) its_name
+      (form_of_all files dir (numeric_sessions m.form) made_plan m.form.names m.forms m.parties of.me below)))
 
   there : of.me < length m.forms
-  there = omega (arith, below, forms_count files dir made_plan [] m.form.names m.forms m.parties)
+  there = omega (arith, below, forms_count files dir (numeric_sessions m.form) made_plan [] m.form.names m.forms m.parties)
 
   has_node_part : IsNodeOf (node_part node) (node_in job.world node)
   has_node_part =

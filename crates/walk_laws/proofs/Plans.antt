@@ -7,6 +7,9 @@ use Rattle.group_formula.proofs.OneAnswer.{one_answer}
 use Rattle.expr_circuit.specs.declared.fault.ExprFault.{ExprFault}
 use Rattle.expr_circuit.specs.Circuits.{circuit}
 use Rattle.expr_circuit.proofs.OneAnswer.{one_answer as one_program_only}
+use Rattle.number_circuit.specs.declared.fault.NumberFault.{NumberFault}
+use Rattle.number_circuit.proofs.OneAnswer.{one_answer as one_number_program}
+use Rattle.number_compiler.specs.Circuits.{has_large_circuit, circuit as circuit_of_numbers}
 use Rattle.q2_test.specs.CoveringPairs.{IsFirstCovering}
 use Rattle.plan_model.specs.Plans.{Plan}
 use Rattle.plan_model.specs.Tallies.{tape_length}
@@ -16,7 +19,7 @@ use Rattle.plan_faults.specs.declared.plan_fault.PlanFault.TheVariants.{TooManyM
 use Rattle.job_file.specs.Forms.{JobForm, AdversaryForm, by_formula, by_list}
 use Rattle.refusal_text.specs.Lines.{formula_line, covering_line, plan_line}
 use Rattle.job_walk.specs.Verdict.{accepted, missing, refused, EndsOnce}
-use Rattle.job_walk.specs.JobOf.{ExpressionsOf, FormulaOf, GroupsOf, Q2Of, PlanOf}
+use Rattle.job_walk.specs.JobOf.{ExpressionsOf, ProgramOf, FormulaOf, GroupsOf, Q2Of, PlanOf}
 use Rattle.walk_laws.proofs.Walks.{ends_once, then_once}
 
 formula_once : (names : List (List ℕ)) (text : List ℕ) → EndsOnce (FormulaOf names text)
@@ -40,6 +43,17 @@ expressions_once line bits text (refused s told) (accepted c) (fault, is, three,
 expressions_once line bits text (refused s told) (missing name) a b = absurd b
 expressions_once line bits text (refused s told) (refused s' told') (fault, is, three, same) (fault', is', three', same') =
     ap₂ refused (three ∙ sym three') (same ∙ ap line ((one_program_only bits text).one_fault fault fault' is is') ∙ sym same')
+
+pub program_once : (line : NumberFault → List ℕ) (text : List ℕ) → EndsOnce (ProgramOf line text)
+unfolding ProgramOf
+program_once line text (accepted c) (accepted d) a b = ap accepted (a.made ∙ ap circuit_of_numbers ((one_number_program has_large_circuit text).one_program a.program b.program a.is b.is) ∙ sym b.made)
+program_once line text (accepted c) (missing name) a b = absurd b
+program_once line text (accepted c) (refused s told) a (fault, is, three, same) = absurd ((one_number_program has_large_circuit text).not_both a.program fault a.is is)
+program_once line text (missing name) w a b = absurd a
+program_once line text (refused s told) (accepted c) (fault, is, three, same) b = absurd ((one_number_program has_large_circuit text).not_both b.program fault b.is is)
+program_once line text (refused s told) (missing name) a b = absurd b
+program_once line text (refused s told) (refused s' told') (fault, is, three, same) (fault', is', three', same') =
+    ap₂ refused (three ∙ sym three') (same ∙ ap line ((one_number_program has_large_circuit text).one_fault fault fault' is is') ∙ sym same')
 
 pub groups_once : (names : List (List ℕ)) (adversary : AdversaryForm) → EndsOnce (GroupsOf names adversary)
 unfolding GroupsOf

@@ -1,5 +1,5 @@
 -- What a run writes for a session of expressions.
-use Rattle.std.specs.Prelude.{◌≡◌, ℕ, ◌^◌, ◌<◌, false, List, [], ◌∷◌, length, Option, Some, slice_index, slice_get}
+use Rattle.std.specs.Prelude.{◌≡◌, ℕ, ◌^◌, ◌<◌, Bool, false, List, [], ◌∷◌, length, Option, Some, slice_index, slice_get}
 use Rattle.plan_model.specs.Plans.{session}
 use Rattle.job_file.specs.Forms.{JobForm, SessionForm}
 use Rattle.job_file.specs.declared.layout.SessionLayout.TheVariants.{Expressions}
@@ -19,10 +19,10 @@ pub record IsProgramOf (files : Contents) (dir : List ℕ) (bits : ℕ) (form : 
   pub file : files (path_of dir form.circuit) ≡ Some text
   pub is : IsProgram bits text p
 
--- session s has an output value for each of these, of one word, which is it
-pub record WritesValues (w : World) (s : ℕ) (values : List ℕ) : Type 0 where
+-- session s has an output value for each of these, of which that number alone is written
+pub record WritesValues (numeric : List Bool) (w : World) (s : ℕ) (values : List ℕ) : Type 0 where
   pub count : length (session w.plan s).outputs ≡ length values
-  pub words : (v : ℕ) → v < length values → value_words w s v ≡ slice_index values v ∷ []
+  pub words : (v : ℕ) → v < length values → value_words numeric w s v ≡ slice_index values v ∷ []
 
 -- Of a job whose files are accepted, each session of expressions has a program for its file, and the words that a run
 -- writes are the values of the program's output lines at those of its input wires: the inputs of the files, or the
@@ -33,4 +33,5 @@ RunsWriteValues =
     → JobText false files dir (accepted job) → JobAt files dir asked (accepted whole)
     → (s : ℕ) (form : SessionForm) → slice_get job.sessions s ≡ Some form → form.layout ≡ Expressions
     → (p : List Statement) × IsProgramOf files dir job.bits form p
-    × WritesValues whole.world s (program_value (2 ^ job.bits) p (first_values whole.world (plain whole.world) s))
+    × WritesValues whole.numeric whole.world s
+    (program_value (2 ^ job.bits) p (first_values whole.world (plain whole.world) s))

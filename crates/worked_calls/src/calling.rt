@@ -76,7 +76,7 @@ fn all_parties(
 {
     let mut parties = Vec::new(alloc);
     for p in 0..names.len() {
-        let party = read_party_file(alloc, files, "d", plan, p, names.name(p))?;
+        let party = read_party_file(alloc, files, "d", &[], plan, p, names.name(p))?;
         parties.push(party)?;
     }
     Ok(parties)

@@ -19,7 +19,7 @@ fn party_data(alloc: Global, plan: &Plan, p: u32, file: &str) -> Result<PartyDat
     requires { p < plan.now.parties }
     ensures { IfOk result (λ party_data. FitsPlan plan.now p (form_of party_data)) }
 {
-    match read_party(alloc, file.as_bytes(), plan, p) {
+    match read_party(alloc, file.as_bytes(), &[], plan, p) {
         Ok(party_data) => Ok(party_data),
         Err(_) => Err(Fail::from("the file was refused")),
     }

@@ -20,5 +20,5 @@ returns-clause-reads g c =
     let name : c.as_str.result.now ≡ party_file c.args.name.now = c.as_str.ensures.value ∙ c.in_ok-file.ensures in
     let name' : c.as_str-2.result.now ≡ party_file c.args.name.now = c.as_str-2.ensures.value ∙ c.in_ok-file.ensures in
     reads_then _ _ _ _ _ _ _ _ _ (file_named _ _ _ _ _ _ _ name c.in_ok-bytes.ensures)
-    (reads_walk _ _ _ _ (bytes_same _ (λ n. verdict_of (party_line n) (party_in c.args.plan.now c.args.p c.in_ok-bytes.bytes.items)) _ _ _ name'
-    (bytes_same _ (λ b. verdict_of (party_line c.as_str-2.result.now) (party_in c.args.plan.now c.args.p b)) _ _ _ c.deref.ensures.value c.party_in.ensures.walks)))
+    (reads_walk _ _ _ _ (bytes_same _ (λ n. verdict_of (party_line n) (party_in c.args.numeric.now c.args.plan.now c.args.p c.in_ok-bytes.bytes.items)) _ _ _ name'
+    (bytes_same _ (λ b. verdict_of (party_line c.as_str-2.result.now) (party_in c.args.numeric.now c.args.plan.now c.args.p b)) _ _ _ c.deref.ensures.value c.party_in.ensures.walks)))

@@ -1,6 +1,7 @@
 use Rattle.std.proofs.Common.{◌++◌, ◌∷◌, [], length, subst}
 use Rattle.layer_order.specs.Orders.{ordered}
-use Rattle.job_walk.specs.JobOf.{CircuitOf, SessionAt}
+use Rattle.job_file.specs.Jobs.{session_view}
+use Rattle.job_walk.specs.JobOf.{has_layers, CircuitOf, SessionAt}
 use Rattle.job_walk.proofs.Steps.{reads_exit, reads_then, reads_walk, walks_exit, walks_then}
 use Rattle.job_walk.proofs.Equal.{file_named, walk_same, part_same}
 use Rattle.job_walk.proofs.Logs.{log_file, on_ok}
@@ -23,7 +24,7 @@ returns-clause-reads g c =
     reads_then _ _ _ _ _ _ _ _ _ (file_named _ _ _ _ _ _ _ c.as_str.ensures c.in_ok-bytes.ensures)
     (reads_walk _ _ _ _ (walks_then _ _ _ _ _ _
     (walk_same _ (CircuitOf c.args.session.now.layout c.args.session.now.circuit (length c.args.before.now) c.args.job.now.ring) _ _ _ c.deref-2.ensures.value c.in_ok-circuit.ensures)
-    (part_same _ (ordered c.args.session.now.layered_gates c.in_ok-circuit.circuit) c.args.session.now.products _ _ _ _ _ c.requires.session.readers c.part_of.ensures.walks)))
+    (part_same _ (ordered (has_layers (session_view c.args.session.now)) c.in_ok-circuit.circuit) c.args.session.now.products _ _ _ _ _ c.requires.session.readers c.part_of.ensures.walks)))
 
 pub returns-clause-log : goal.returns-clause-log
 returns-clause-log g c =

@@ -33,4 +33,4 @@ pub returns : goal.returns
 returns g c = λ err err'.
     let p = of_job _ _ _ _ _ _ _ c.in_ok-job.ensures.reads in
     talked c.args.asked.now.dir.now c.args.asked.now.name.now _ _ c.in_ok-job.job p.3 (p.0, p.1, p.3.asks_all) err err' _ c.parties.ensures.is
-    (links_reading g.N.In.Inlet.reading g.N.Out.Outlet.reading) _ _ _ _ _ _ c.in-Ok-links.ensures _ _ _ (ready_part c.in_ok-job.job _ _ c.in-Ok.ensures c.deref.ensures.value) _ c.talk-outcome.ensures.over _ c.write_outcome-result.ensures
+    (links_reading g.N.In.Inlet.reading g.N.Out.Outlet.reading) _ _ _ _ _ _ c.in-Ok-links.ensures _ _ _ (ready_part c.in_ok-job.job _ _ c.in-Ok.ensures c.deref.ensures.value) _ c.talk-outcome.ensures.over _ c.deref-2.ensures.value _ c.write_outcome-result.ensures

@@ -14,5 +14,5 @@ returns-in_err-bytes-clause-reads g c = reads_exit _ _ _ _ [] _ _ _ _ c.from_res
 pub returns-clause-reads : goal.returns-clause-reads
 unfolding OtherAt
 returns-clause-reads g c =
-    let read : List ℕ → Verdict (List (List (List ℕ))) = λ bytes. verdict_of (other_line c.args.names.now) (other_in c.args.plan.now c.args.names.now c.args.inputs.now bytes) in
+    let read : List ℕ → Verdict (List (List (List ℕ))) = λ bytes. verdict_of (other_line c.args.names.now) (other_in c.args.numeric.now c.args.plan.now c.args.names.now c.args.inputs.now bytes) in
     reads_then _ _ _ _ _ _ _ _ _ c.in_ok-bytes.ensures (reads_walk _ _ _ _ (bytes_same _ read _ _ _ c.deref.ensures.value c.other_in.ensures.walks))

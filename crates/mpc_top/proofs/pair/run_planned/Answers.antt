@@ -1,7 +1,8 @@
-use Rattle.std.proofs.Common.{◌≡◌, ℕ, List, [], ◌∷◌, Option, Some, Result, Ok, refl, sym, ap, subst, ◌∙◌, length, map}
+use Rattle.std.proofs.Common.{◌≡◌, ℕ, Bool, List, [], ◌∷◌, Option, Some, Result, Ok, refl, sym, ap, subst, ◌∙◌, length, map}
 use Rattle.std.specs.Prelude.{IfSome}
 use Rattle.std.proofs.lemmas.List.{length-map}
 use Rattle.std.specs.Global.{Vec}
+use Rattle.outer_io.specs.Files.{FilesReading}
 use Rattle.outer_io.specs.Sink.{SinkReading, Writes}
 use Rattle.outer_io.specs.declared.sink.Failed.{Failed}
 use Rattle.party_set.specs.Parties.{Members}
@@ -15,9 +16,11 @@ use Rattle.tape_map.specs.TapeMaps.{second_world}
 use Rattle.tape_map.specs.Laws.{CanHide}
 use Rattle.command_words.specs.Commands.{pair}
 use Rattle.output_text.specs.PairText.{pair_text}
-use Rattle.mpc_top.specs.WholeJobs.{mask_of}
+use Rattle.mpc_top.specs.WholeJobs.{mask_of, OtherAt}
 use Rattle.mpc_top.specs.Seen.{parties_view}
+use Rattle.job_walk.specs.declared.stop.Stop.{Stop}
 use Rattle.job_walk.specs.Names.{other_file}
+use Rattle.job_walk.specs.Reads.{ReadsAs}
 use Rattle.job_walk.proofs.JobFiles.{of_job}
 use Rattle.mpc_top.proofs.FilesRead.{first_parties, first_more, all_more}
 use Rattle.mpc_top.proofs.Jobs.{job_read}
@@ -25,10 +28,16 @@ use Rattle.mpc_top.proofs.Runs.{as_text, runs_stop, runs_memory, runs_written, r
 use Rattle.mpc_top.proofs.Pairs.{parties_stop, other_stops, hiding_stops, pair_read, text_read, pair_hides}
 use Rattle.mpc_top.proofs.pair.run_planned.Goals as goal
 
--- the text of a pair for the mask of the group that was asked for
-same_text : (names : List (List ℕ)) (w : World) (other : List (List (List ℕ))) (asked mask : ℕ) (before after : SinkReading) (result : Result Unit Failed) → asked ≡ mask
-    → Writes (pair_text names w (second_world w other mask) mask) before after result → Writes (pair_text names w (second_world w other asked) asked) before after result
-same_text names w other asked mask before after result same text = subst (λ k. Writes (pair_text names w (second_world w other k) k) before after result) (sym same) text
+-- the text of a pair for the mask of the group that was asked for, with the words of sessions as the code found them
+same_text : (names : List (List ℕ)) (numeric found : List Bool) (w : World) (other : List (List (List ℕ))) (asked mask : ℕ) (before after : SinkReading) (result : Result Unit Failed) → found ≡ numeric → asked ≡ mask
+    → Writes (pair_text names found w (second_world w other mask) mask) before after result → Writes (pair_text names numeric w (second_world w other asked) asked) before after result
+same_text names numeric found w other asked mask before after result is same text =
+    subst (λ k. Writes (pair_text names numeric w (second_world w other k) k) before after result) (sym same) (subst (λ ns. Writes (pair_text names ns w (second_world w other mask) mask) before after result) is text)
+
+-- what is read of other inputs, with the words of sessions as the code found them
+same_others : {C : Type 0} (dir : List ℕ) (xs : List (List ℕ)) (see : C → List (List (List ℕ))) (plan : Plan) (names : List (List ℕ)) (inputs : List (List (List ℕ))) (numeric found : List Bool) (before after : FilesReading) (result : Result C Stop)
+    → found ≡ numeric → ReadsAs dir xs see (λ m. OtherAt m dir found plan names inputs) before after result → ReadsAs dir xs see (λ m. OtherAt m dir numeric plan names inputs) before after result
+same_others dir xs see plan names inputs numeric found before after result is r = subst (λ ns. ReadsAs dir xs see (λ m. OtherAt m dir ns plan names inputs) before after result) is r
 
 -- the inputs of a copy of the parties are those of the parties
 same_given : (plan : Plan) (seen parties : List PartyData) (inputs : List (List (List ℕ))) → seen ≡ parties → inputs ≡ (world_of plan (map form_of seen)).inputs → inputs ≡ (world_of plan (map form_of parties)).inputs
@@ -57,7 +66,7 @@ pub returns-in_err-other : goal.returns-in_err-other
 returns-in_err-other g c = λ group before read.
     let p = of_job _ _ _ _ _ _ _ read in
     let r = other_stops c.args.dir.now group c.args.planned.now _ _ p.3 _ c.in_ok-parties.parties c.in_ok-parties.ensures.reads
-    _ (same_given c.args.planned.now.plan _ _ _ c.deref.ensures.value c.in_ok-inputs.ensures.same) _ _ c.in_err-other.ensures.reads in
+    _ (same_given c.args.planned.now.plan _ _ _ c.deref.ensures.value c.in_ok-inputs.ensures.same) _ _ (same_others _ _ _ _ _ _ _ _ _ _ _ c.deref-numeric.ensures.value c.in_err-other.ensures.reads) in
     runs_stop (pair c.args.dir.now group) _ _ _ _ as_text _ _ c.from_residual-in_err-other.ensures.1 refl refl (first_more c.args.dir.now (other_file ∷ []) p.0 p.1 _ p.2 _ r) (λ name last. last) r
 
 pub hidden_pair-requires-clause-group : goal.hidden_pair-requires-clause-group
@@ -67,7 +76,7 @@ pub returns-in_err-pair : goal.returns-in_err-pair
 returns-in_err-pair g c = λ group before read.
     let p = of_job _ _ _ _ _ _ _ read in
     let r = hiding_stops c.args.dir.now group c.args.planned.now _ _ p.3 _ c.in_ok-parties.parties c.in_ok-parties.ensures.reads
-    _ (same_given c.args.planned.now.plan _ _ _ c.deref.ensures.value c.in_ok-inputs.ensures.same) _ c.in_ok-other.other c.in_ok-other.ensures.reads _ c.in_err-pair.ensures.walks in
+    _ (same_given c.args.planned.now.plan _ _ _ c.deref.ensures.value c.in_ok-inputs.ensures.same) _ c.in_ok-other.other (same_others _ _ _ _ _ _ _ _ _ _ _ c.deref-numeric.ensures.value c.in_ok-other.ensures.reads) _ c.in_err-pair.ensures.walks in
     runs_stop (pair c.args.dir.now group) _ _ _ _ as_text _ _ c.from_residual-in_err-pair.ensures.1 refl refl (first_more c.args.dir.now (other_file ∷ []) p.0 p.1 _ p.2 _ r) (λ name last. last) r
 
 pub write_pair-requires-clause-group : goal.write_pair-requires-clause-group
@@ -100,9 +109,9 @@ returns-in_err-write_pair g c = λ group before read.
     let written = c.in_err-write_pair.ensures w refl (c.run-first.ensures w refl made.first) v refl (c.run-second.ensures v refl made.second) (ap session_words c.deref-2.ensures.value ∙ made.tapes) in
     let same : mask_of planned.group ≡ c.group_of-group.result.mask = ap mask_of c.group_of-group.ensures in
     let p = of_job _ _ _ _ _ _ _ read in
-    let r = text_read c.args.dir.now group planned _ _ p.3 _ parties c.in_ok-parties.ensures.reads _ (same_given c.args.planned.now.plan _ _ _ c.deref.ensures.value c.in_ok-inputs.ensures.same) _ other c.in_ok-other.ensures.reads _ c.in_ok-pair.ensures.walks in
+    let r = text_read c.args.dir.now group planned _ _ p.3 _ parties c.in_ok-parties.ensures.reads _ (same_given c.args.planned.now.plan _ _ _ c.deref.ensures.value c.in_ok-inputs.ensures.same) _ other (same_others _ _ _ _ _ _ _ _ _ _ _ c.deref-numeric.ensures.value c.in_ok-other.ensures.reads) _ c.in_ok-pair.ensures.walks in
     runs_cut (pair c.args.dir.now group) _ _ _ _ _ _ _ c.from_residual-in_err-write_pair.ensures.1 refl (all_more c.args.dir.now (other_file ∷ []) p.0 p.1 _ p.2 _ r) r
-    (same_text planned.names w other _ _ _ _ _ same written)
+    (same_text planned.names _ _ w other _ _ _ _ _ c.deref-numeric.ensures.value same written)
 
 pub returns : goal.returns
 returns g c = λ group before read.
@@ -116,8 +125,8 @@ returns g c = λ group before read.
     let written = c.in_ok-write_pair.ensures w refl (c.run-first.ensures w refl made.first) v refl (c.run-second.ensures v refl made.second) (ap session_words c.deref-2.ensures.value ∙ made.tapes) in
     let same : mask_of planned.group ≡ c.group_of-group.result.mask = ap mask_of c.group_of-group.ensures in
     let Written = λ (text : List ℕ). Writes text (g.O.Sink.reading c.args.out.now) (g.O.Sink.reading c.write_pair.new.sink) (Ok tt) in
-    let text = subst (λ k. Written (pair_text planned.names w (second_world w other k) k)) (sym same) written in
-    let text_is = text_read c.args.dir.now group planned _ _ p.3 _ parties c.in_ok-parties.ensures.reads _ (same_given c.args.planned.now.plan _ _ _ c.deref.ensures.value c.in_ok-inputs.ensures.same) _ other c.in_ok-other.ensures.reads _ c.in_ok-pair.ensures.walks in
-    let paired = pair_read c.args.dir.now group planned _ _ p.3 _ parties c.in_ok-parties.ensures.reads _ (same_given c.args.planned.now.plan _ _ _ c.deref.ensures.value c.in_ok-inputs.ensures.same) _ other c.in_ok-other.ensures.reads _ c.in_ok-pair.ensures.walks in
+    let text = same_text planned.names planned.numeric.items _ w other _ _ _ _ _ c.deref-numeric.ensures.value same written in
+    let text_is = text_read c.args.dir.now group planned _ _ p.3 _ parties c.in_ok-parties.ensures.reads _ (same_given c.args.planned.now.plan _ _ _ c.deref.ensures.value c.in_ok-inputs.ensures.same) _ other (same_others _ _ _ _ _ _ _ _ _ _ _ c.deref-numeric.ensures.value c.in_ok-other.ensures.reads) _ c.in_ok-pair.ensures.walks in
+    let paired = pair_read c.args.dir.now group planned _ _ p.3 _ parties c.in_ok-parties.ensures.reads _ (same_given c.args.planned.now.plan _ _ _ c.deref.ensures.value c.in_ok-inputs.ensures.same) _ other (same_others _ _ _ _ _ _ _ _ _ _ _ c.deref-numeric.ensures.value c.in_ok-other.ensures.reads) _ c.in_ok-pair.ensures.walks in
     runs_written (pair c.args.dir.now group) _ _ _ _ _ _ refl (all_more c.args.dir.now (other_file ∷ []) p.0 p.1 _ p.2 _ text_is) text_is text
     (pair_hides Written c.args.dir.now group _ _ _ _ paired (subst (CanHide w other) (sym same) made.hides) text)

@@ -14,8 +14,8 @@ use Rattle.mpc_top.proofs.parties.read_parties.Given as goal
 abbrev pub invariant-loop-p : goal.invariant-loop-p
 invariant-loop-p g l = record {
   reads : (after : FilesReading) (result : Result (Vec PartyData Global) Stop)
-      → ReadsAs l.dir (party_files (drop l.p (map (λ (name : List ℕ). name) l.names))) parties_view (λ m. PartiesAfter m l.dir l.plan (parties_view l.parties) (drop l.p (map (λ (name : List ℕ). name) l.names))) (g.F.Files.reading l.files) after result
-      → ReadsAs l.dir (party_files l.names) parties_view (λ m. PartiesAfter m l.dir l.plan [] l.names) (g.F.Files.reading l.initial.files) after result;
+      → ReadsAs l.dir (party_files (drop l.p (map (λ (name : List ℕ). name) l.planned.names))) parties_view (λ m. PartiesAfter m l.dir l.planned.numeric.items l.planned.plan (parties_view l.parties) (drop l.p (map (λ (name : List ℕ). name) l.planned.names))) (g.F.Files.reading l.files) after result
+      → ReadsAs l.dir (party_files l.planned.names) parties_view (λ m. PartiesAfter m l.dir l.planned.numeric.items l.planned.plan [] l.planned.names) (g.F.Files.reading l.initial.files) after result;
   count : length l.parties.items ≡ l.p;
-  fit : AllFit l.plan l.parties.items;
+  fit : AllFit l.planned.plan l.parties.items;
 }

@@ -24,5 +24,5 @@ loop-v-preserved g c = record {
   first =
       let wide = ap (λ (v : OutputValue). v.width) c.value_of-first.ensures in
       ap₂ (λ n m. n + m) c.loop-v.invariant.first wide ∙ sym (total_more c.loop-v.v (λ u. (output_value (session c.args.reader.now.plan.now c.args.s) u).width));
-  text = adds_more c.loop-v.v (value_line c.args.reader.now.name.now c.args.reader.now.plan.now c.args.reader.now.party c.args.reader.now.done.now c.args.s) _ _ _ _ refl c.loop-v.invariant.text c.gather_value.ensures;
+  text = adds_more c.loop-v.v (value_line c.args.reader.now.name.now c.args.reader.now.numeric.now c.args.reader.now.plan.now c.args.reader.now.party c.args.reader.now.done.now c.args.s) _ _ _ _ refl c.loop-v.invariant.text c.gather_value.ensures;
 }

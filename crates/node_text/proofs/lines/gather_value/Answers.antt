@@ -7,11 +7,11 @@ use Rattle.session_slots.specs.declared.values.OutputValue.{OutputValue}
 use Rattle.plan_model.specs.Plans.{session}
 use Rattle.view_text.specs.OutLines.{out_line, output_value}
 use Rattle.view_text.proofs.OutputWires.{few_wires}
-use Rattle.node_text.specs.NodeText.{output_words}
+use Rattle.node_text.specs.NodeText.{shown_output}
 use Rattle.node_text.proofs.lines.gather_value.Goals as goal
 
-pub gather_words-requires-clause-few : goal.gather_words-requires-clause-few
-gather_words-requires-clause-few g c =
+pub gather_shown-requires-clause-few : goal.gather_shown-requires-clause-few
+gather_shown-requires-clause-few g c =
     let wide = ap (λ (v : OutputValue). v.width) c.value_of.ensures in
     omega (arith, wide, c.requires.first, few_wires c.args.reader.now.plan.now c.args.s c.args.v c.requires.sound c.requires.session c.requires.value)
 
@@ -24,6 +24,6 @@ pub returns : goal.returns
 returns g c =
     let reads : has_party (output_value (session c.args.reader.now.plan.now c.args.s) c.args.v).readers.mask c.args.reader.now.party ≡ true = sym c.is_read.ensures ∙ c.if-not-is_read.false in
     let wide = ap (λ (v : OutputValue). v.width) c.value_of.ensures in
-    let line = λ (n : ℕ) (m : ℕ). out_line c.args.s c.args.v c.args.reader.now.name.now (output_words c.args.reader.now.done.now c.args.s n m) in
+    let line = λ (n : ℕ) (m : ℕ). out_line c.args.s c.args.v c.args.reader.now.name.now (shown_output c.args.reader.now.numeric.now c.args.reader.now.plan.now c.args.reader.now.done.now c.args.s n m) in
     adds_same _ _ _ _ (ap₂ line c.requires.first wide ∙ sym (cond-true (has_party (output_value (session c.args.reader.now.plan.now c.args.s) c.args.v).readers.mask c.args.reader.now.party) _ [] reads))
-    (adds_then _ _ _ _ _ c.gather_out_head.ensures (adds_then _ _ _ _ _ c.gather_words.ensures c.push.ensures))
+    (adds_then _ _ _ _ _ c.gather_out_head.ensures (adds_then _ _ _ _ _ c.gather_shown.ensures c.push.ensures))

@@ -15,7 +15,7 @@ pub returns-in_err-read_party-clause-fault : goal.returns-in_err-read_party-clau
 returns-in_err-read_party-clause-fault c =
     let plan = c.args.plan.now in
     stops_by Memory c.from_residual.result _ _ _ c.from_residual.ensures.1
-    (λ h. listed-stops plan.parties c.loop-party.party (party_fault plan c.args.names.now (table_view c.args.given.now)) _ (omega arith) c.loop-party.invariant.passed h)
+    (λ h. listed-stops plan.parties c.loop-party.party (party_fault c.args.numeric.now plan c.args.names.now (table_view c.args.given.now)) _ (omega arith) c.loop-party.invariant.passed h)
     c.in_err-read_party.ensures.fault
 
 pub loop-party-preserved : goal.loop-party-preserved
@@ -23,9 +23,9 @@ loop-party-preserved c =
     let plan = c.args.plan.now in
     let given = table_view c.args.given.now in
     let p = c.loop-party.party in
-    let own = party_inputs c.args.names.now c.args.inputs.now given in
+    let own = party_inputs c.args.numeric.now c.args.plan.now c.args.names.now c.args.inputs.now given in
     record {
-      passed = listed_more-passed p (party_fault plan c.args.names.now given) c.loop-party.invariant.passed c.in_ok-read_party.ensures.passed.0;
+      passed = listed_more-passed p (party_fault c.args.numeric.now plan c.args.names.now given) c.loop-party.invariant.passed c.in_ok-read_party.ensures.passed.0;
       read =
           ap input_words c.in_ok-push.ensures.items
           ∙ map-append (λ (sessions : Vec (Vec ℕ)). session_words sessions.items) c.loop-party.words.items (c.in_ok-read_party.field-0 ∷ [])
@@ -38,6 +38,6 @@ returns-clause-passed c =
     let plan = c.args.plan.now in
     let given = table_view c.args.given.now in
     let all : c.loop-party.party ≡ plan.parties = omega arith in (
-      ap (λ n. first_fault (listed n (party_fault plan c.args.names.now given))) (sym all) ∙ c.loop-party.invariant.passed,
-      c.loop-party.invariant.read ∙ ap (λ n. listed n (party_inputs c.args.names.now c.args.inputs.now given)) all,
+      ap (λ n. first_fault (listed n (party_fault c.args.numeric.now plan c.args.names.now given))) (sym all) ∙ c.loop-party.invariant.passed,
+      c.loop-party.invariant.read ∙ ap (λ n. listed n (party_inputs c.args.numeric.now c.args.plan.now c.args.names.now c.args.inputs.now given)) all,
     )

@@ -8,6 +8,6 @@ use Rattle.other_file.proofs.parties.read_parties.Given as goal
 
 abbrev pub invariant-loop-party : goal.invariant-loop-party
 invariant-loop-party l = record {
-  passed : first_fault (listed l.party (party_fault l.plan l.names (table_view l.given))) ≡ None;
-  read : input_words l.words.items ≡ listed l.party (party_inputs l.names l.inputs (table_view l.given));
+  passed : first_fault (listed l.party (party_fault l.numeric l.plan l.names (table_view l.given))) ≡ None;
+  read : input_words l.words.items ≡ listed l.party (party_inputs l.numeric l.plan l.names l.inputs (table_view l.given));
 }

@@ -16,7 +16,7 @@ returns-then-found-wanted-clause-fault c =
     let wanted : c.from-wanted.result ≡ length plan.sessions = c.from-wanted.ensures ∙ c.sessions.ensures in
     let count : length texts ≡ length c.args.items.now = length-map (map view c.args.items.now) text_of ∙ length-map c.args.items.now view in
     let differ : (length texts == length plan.sessions) ≡ false = ne_eqb (length texts) (length plan.sessions) (λ e. c.if-found-wanted.true (sym count ∙ e ∙ sym wanted)) in
-    inr (count_fails plan c.args.party texts differ ∙ ap₂ (λ w f. Some (CountDiffers None w f)) (sym wanted) count)
+    inr (count_fails c.args.numeric.now plan c.args.party texts differ ∙ ap₂ (λ w f. Some (CountDiffers None w f)) (sym wanted) count)
 
 pub returns-clause-passed : goal.returns-clause-passed
 returns-clause-passed c =
@@ -25,7 +25,7 @@ returns-clause-passed c =
     let wanted : c.from-wanted.result ≡ length plan.sessions = c.from-wanted.ensures ∙ c.sessions.ensures in
     let count : length texts ≡ length c.args.items.now = length-map (map view c.args.items.now) text_of ∙ length-map c.args.items.now view in
     let counted : length texts ≡ length plan.sessions = count ∙ c.if-found-wanted.false ∙ wanted in
-    IfOk-weaker c.read_inputs.result _ _ (λ words h. (count_passes plan c.args.party texts None (eq-eqb _ _ counted) h.0, h.1)) c.read_inputs.ensures.passed
+    IfOk-weaker c.read_inputs.result _ _ (λ words h. (count_passes c.args.numeric.now plan c.args.party texts None (eq-eqb _ _ counted) h.0, h.1)) c.read_inputs.ensures.passed
 
 pub returns-clause-fault : goal.returns-clause-fault
 returns-clause-fault c =
@@ -37,6 +37,6 @@ returns-clause-fault c =
     IfErr-weaker c.read_inputs.result _ _
     (λ fault h. elim h [
       | inl memory ↦ inl memory
-      | inr e ↦ inr (count_passes plan c.args.party texts (Some fault) (eq-eqb _ _ counted) e)
+      | inr e ↦ inr (count_passes c.args.numeric.now plan c.args.party texts (Some fault) (eq-eqb _ _ counted) e)
     ])
     c.read_inputs.ensures.fault
