@@ -1,13 +1,14 @@
 #!/usr/bin/env python3
-"""Makes jobs of several sizes, each in a folder of its own: make_jobs.py FOLDER [limits | cut]
+"""Makes jobs of several sizes, each in a folder of its own: make_jobs.py FOLDER [limits | cut | numbers]
 
 Ring circuits of 4,096 to 65,536 gates, a quarter of them products, a circuit of bits with as many gates of each kind as a
 circuit of AES-128 has, one of products alone that eight sessions compute, another for five parties, and the job that 'mpc sample 65536'
 makes. Of the largest ring circuit and of the one of bits there is a job with prepared products, too, and one of eight sessions of which every other one prepares its
 products. With 'limits', in their place, jobs as large as the program takes: the most products, the deepest circuit (each gate squares what the one before it set), also with its gates in layers, a mixed one in
 layers, and the widest (all wires are inputs or outputs), and a circuit of bits of sixteen times 65,536 gates, which examples/cut.py cuts into sixteen sessions. With 'cut', such circuits of bits and of
-words of 8, 32 and 64 bits. Each folder gets the job, its circuits, three party files with seeds, and 'expected', the text that 'mpc run' must
-write, computed from the plain circuit. The same call always makes the same files.
+words of 8, 32 and 64 bits. With 'numbers', programs of whole numbers that become about 60,000 gates: one quotient of 64 bits, and some hundred lines each of which takes the larger or the smaller of two numbers.
+Each folder gets the job, its circuits or its program, three party files with seeds, and 'expected', the text that 'mpc run' must write, computed from the plain circuit, or of a program
+by Python's own integers. The same call always makes the same files.
 
 A list of the folders, with a line 'NAME GATES PRODUCTS MESSAGES' for each, goes to standard output.
 """
@@ -23,6 +24,9 @@ TOP = pathlib.Path(__file__).resolve().parent.parent
 sys.path[1:1] = [str(TOP / 'examples'), str(TOP / 'tests')]
 from circuit_reader import read_circuit  # noqa: E402
 from cut import Job  # noqa: E402
+from job_folder import job_text  # noqa: E402
+from number_circuit import compiled  # noqa: E402
+from number_programs import input_widths, outputs_of  # noqa: E402
 from summands import Sharing as CutSharing  # noqa: E402
 from waits import told  # noqa: E402
 
@@ -38,6 +42,12 @@ CUT_PRODUCTS = 13
 CUT_NEAR = 62
 CUT_WIDTHS = [32, 32]
 CUT_OUTPUTS = 32
+
+# A program has so many inputs of so many bits, and so many lines that take one of two of the last numbers.
+PROGRAM_INPUTS = 32
+PROGRAM_WIDTH = 16
+PROGRAM_LINES = 430
+PROGRAM_NEAR = 32
 
 # Gates of the circuit of bits.
 BITS = {'AND': 6400, 'XOR': 28176, 'INV': 2087}
@@ -236,6 +246,45 @@ def write_cut(folder, name, bits):
     print(name, sum(part.size for part in job.parts), sum(job.products), sum(job.messages), flush=True)
 
 
+def write_program(folder, name, lines, numbers):
+    """Writes a job of a program of numbers, whose inputs a, b and c give in turn, and whose outputs all read."""
+    path, parties = os.path.join(folder, name), THREE.parties
+    os.makedirs(path)
+    data = ''.join(f'{line}\n' for line in lines).encode()
+    widths = input_widths(data)
+    inputs = [numbers.below(2**31) * numbers.below(2**31) % 2**width for width in widths]
+    outputs = outputs_of(data, inputs)
+    owners = [parties[number % len(parties)] for number in range(len(widths))]
+    session = {'circuit': 'program.txt', 'layout': 'numbers', 'owners': owners, 'readers': [parties] * len(outputs)}
+    files = {'program.txt': data, 'job.toml': job_text({'version': 2, 'ring_bits': 1, 'parties': parties, 'tolerated': [[party] for party in parties], 'session': [session]}).encode(),
+             'expected': ''.join(f'out 0 {value} {party} {output.value}\n' for value, output in enumerate(outputs) for party in parties).encode()}
+    for party in parties:
+        given = ' '.join(str(number) for number, owner in zip(inputs, owners) if owner == party)
+        files[f'party_{party}.toml'] = f'version = 1\ninputs = ["{given}"]\nseed = "{hashlib.sha256(f"{name} {party}".encode()).hexdigest()}"\n'.encode()
+    for file, text in files.items():
+        with open(os.path.join(path, file), 'wb') as out:
+            out.write(text)
+    circuit = compiled(data)
+    gates, products, ends = int(circuit.partition(' ')[0]), circuit.count(' AND\n'), sum(map(int, circuit.split('\n', 3)[2].split()[1:]))
+    print(name, gates, products, sum(widths) * THREE.deal_messages + products * THREE.product_messages + ends * THREE.output_messages)
+
+
+def chosen_lines(numbers):
+    """The lines of a program, each of which takes one of two numbers."""
+    names = [f'i{number}' for number in range(PROGRAM_INPUTS)]
+    lines = [f'input {name} {PROGRAM_WIDTH}' for name in names]
+    for number in range(PROGRAM_LINES):
+        one, other = (names[-1 - numbers.below(PROGRAM_NEAR)] for _ in range(2))
+        lines.append(f'let n{number} = {("min", "max")[number % 2]}({one}, {other})')
+        names.append(f'n{number}')
+    return [*lines, *(f'output {name}' for name in names[-PROGRAM_INPUTS:])]
+
+
+def write_programs(folder):
+    write_program(folder, 'quotient', ['input x 64', 'input y 64', 'output x / y'], Numbers(2))
+    write_program(folder, 'chosen', chosen_lines(Numbers(16)), Numbers(17))
+
+
 def write_bench(folder):
     for size in RING_SIZES:
         operations = [['MUL', 'ADD', 'SUB', 'NEG'][i % 4] for i in range(size)]
@@ -274,9 +323,9 @@ def write_cuts(folder):
 
 
 def main(words):
-    writers = {'': write_bench, 'limits': write_limits, 'cut': write_cuts}
+    writers = {'': write_bench, 'limits': write_limits, 'cut': write_cuts, 'numbers': write_programs}
     if len(words) not in (2, 3) or words[1].startswith('-') or ''.join(words[2:]) not in writers:
-        sys.exit('usage: make_jobs.py FOLDER [limits | cut]')
+        sys.exit('usage: make_jobs.py FOLDER [limits | cut | numbers]')
     writers[''.join(words[2:])](words[1])
 
 

@@ -11,7 +11,7 @@ wires and what they come to. This script only counts, and writes no file.
 Prints how many products the circuit has, its depth, which is how many of them stand on the longest path, and the rounds of both
 orders: those of the inputs, the products and the outputs. Two lines more tell the same for a session whose products are prepared, one after another or
 all ahead: the rounds before the inputs, and those that follow. A circuit that the program refuses is refused with its line; one that is too
-large for a session is cut by examples/cut.py, into sessions in layers. The program is ./mpc of this repository, or the one that is named.
+large for a session is cut by examples/cut.py, into sessions in layers. Of a program of numbers CIRCUIT is what 'examples/programs.py compile' writes. The program is ./mpc of this repository, or the one that is named.
 """
 
 import itertools

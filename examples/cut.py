@@ -4,7 +4,7 @@
     examples/cut.py CIRCUIT FOLDER PARTY PARTY PARTY .. [OPTION ..]
 
 A session has at most 65,536 gates, and a job 16 sessions. CIRCUIT is a file of bits in Bristol Fashion or, with --bits, of words in
-the layout 'ring'. Each party gives an input value and reads all output values, in order; where there are more parties than input values,
+the layout 'ring'; of a program of numbers, what 'examples/programs.py compile FILE --large' writes. Each party gives an input value and reads all output values, in order; where there are more parties than input values,
 the others give and read nothing. Any two may know everything, and one alone learns nothing but what it reads. Options say otherwise:
 
     --bits N               the circuit is of words of so many bits

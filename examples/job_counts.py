@@ -6,8 +6,10 @@ import os
 from by_layers import DIRECT, IN_FILE, IN_LAYERS, ORDERS, WAYS, in_layers, layers, read_circuit, rounds_apart
 from circuit_reader import read_circuit as checked_circuit
 from expression_reader import compiled
-from job_folder import CARRIED, Refusal, need, read_bytes, read_fields
+from job_folder import BITS, CARRIED, NUMBERS, Refusal, need, read_bytes, read_fields
 from job_folder import read_job as read_whole_job
+from number_circuit import compiled as compiled_program
+from number_reader import Fault
 from summands import Sharing, tolerated_of
 
 # Of a session: the name of its file, its layout, how its products are computed, in which order its gates go, how many values each party gives, who reads
@@ -19,23 +21,29 @@ SessionCounts = collections.namedtuple('SessionCounts', 'file layout way order g
 JobCounts = collections.namedtuple('JobCounts', 'sharing sessions')
 
 
+# The circuit that a text stands for, in the layouts of texts.
+COMPILED = {'expr': compiled, NUMBERS: lambda data, bits: compiled_program(data)}
+
+
 def way_of(session):
     """How the products of a session are computed."""
     return session.get('products', DIRECT)
 
 
 def order_of(session):
-    """In which order the gates of a session go."""
-    return session.get('order', IN_FILE)
+    """In which order the gates of a session go: those of programs of numbers always in layers."""
+    order = session.get('order', IN_FILE)
+    return IN_LAYERS if session['layout'] == NUMBERS and order == IN_FILE else order
 
 
 def gates_of(folder, fields, session):
     """The head and the gates of a session's circuit, in the order in which they go."""
-    data, bits = read_bytes(folder, session['circuit']), fields['ring_bits']
+    data, bits, layout = read_bytes(folder, session['circuit']), fields['ring_bits'], session['layout']
     try:
-        data = compiled(data, bits).encode() if session['layout'] == 'expr' else data
-        checked_circuit(data, bits, session['layout'] == 'bristol')
-    except Refusal as fault:
+        if layout in COMPILED:
+            data = COMPILED[layout](data, bits).encode()
+        checked_circuit(data, bits, layout in (BITS, NUMBERS))
+    except (Refusal, Fault) as fault:
         raise Refusal(f'{os.path.join(folder, session["circuit"])}: {fault}') from None
     head, gates = read_circuit(data)
     return head, in_layers(gates) if order_of(session) == IN_LAYERS else gates

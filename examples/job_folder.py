@@ -17,6 +17,8 @@ try:
 except ModuleNotFoundError:
     sys.exit(f'{os.path.basename(sys.argv[0])}: Python 3.11 or later is needed')
 
+import number_reader
+
 MOST_BYTES = 16_777_216
 MOST_PARTIES = 12
 MOST_SESSIONS = 16
@@ -33,8 +35,11 @@ sys.set_int_max_str_digits(MOST_WIRES)
 # The bits of the ring, the names of the parties, and the sessions.
 Job = collections.namedtuple('Job', 'bits parties sessions')
 
-# Whether its wires are bits of numbers; the owners and the readers of its values; the widths of its input and of its output values.
-Session = collections.namedtuple('Session', 'of_bits owners readers inputs outputs')
+# Its layout; the owners and the readers of its values; the widths of its input and of its output values.
+Session = collections.namedtuple('Session', 'layout owners readers inputs outputs')
+
+# Layouts whose wires are bits: their values are numbers, in the files of one bit after another, and in those of programs themselves.
+BITS, NUMBERS = 'bristol', 'numbers'
 
 
 class Refusal(Exception):
@@ -97,7 +102,18 @@ def read_expressions(folder, name):
     return [[1] * count for count in counts]
 
 
-LAYOUTS = {'bristol': read_widths, 'ring': read_widths, 'expr': read_expressions}
+def read_numbers(folder, name):
+    """The widths of a program of numbers."""
+    path = os.path.join(folder, name)
+    try:
+        inputs, outputs = number_reader.read(read_bytes(folder, name))
+    except number_reader.Fault as fault:
+        raise Refusal(f'{path}: {fault}') from None
+    need(max(len(inputs), len(outputs)) <= MOST_VALUES, f'{path} has more than {MOST_VALUES} lines of inputs or of outputs')
+    return [width for _, width in inputs], [number_reader.bits_of(value.most) for value in outputs]
+
+
+LAYOUTS = {BITS: read_widths, 'ring': read_widths, 'expr': read_expressions, NUMBERS: read_numbers}
 
 
 def read_fields(folder):
@@ -129,8 +145,8 @@ def read_session(folder, number, fields, earlier):
     where = f'{os.path.join(folder, "job.toml")}: session {number}'
     circuit, layout, owners, readers = (fields['session'][number].get(name) for name in ('circuit', 'layout', 'owners', 'readers'))
     need(isinstance(layout, str) and layout in LAYOUTS, f'{where}: layout is none of {", ".join(LAYOUTS)}')
-    need(layout != 'expr' or fields['version'] == 2, f'{where}: the layout expr goes with version = 2')
-    need(layout != 'bristol' or fields['ring_bits'] == 1, f'{where}: the layout bristol goes with ring_bits = 1')
+    need(layout not in ('expr', NUMBERS) or fields['version'] == 2, f'{where}: the layout {layout} goes with version = 2')
+    need(layout not in (BITS, NUMBERS) or fields['ring_bits'] == 1, f'{where}: the layout {layout} goes with ring_bits = 1')
     need(is_texts(owners), f'{where}: owners is no list of names')
     need(isinstance(readers, list) and all(is_texts(names) for names in readers), f'{where}: readers is no list of lists of names')
     givers = [owner for owner in owners if fields['version'] == 1 or carried_width(owner, earlier) is None]
@@ -141,7 +157,7 @@ def read_session(folder, number, fields, earlier):
     wider = next((owner for owner, width in zip(owners, inputs) if owner not in givers and carried_width(owner, earlier) != width), None)
     need(wider is None, f'{where}: the value {wider} has another width in {circuit}')
     need(len(readers) == len(outputs), f'{where}: there are {len(readers)} lists of readers, and {circuit} has {len(outputs)} output values')
-    return Session(layout == 'bristol', owners, readers, inputs, outputs)
+    return Session(layout, owners, readers, inputs, outputs)
 
 
 def read_job(folder):
@@ -185,14 +201,16 @@ def need_names(parties):
     need(1 <= len(parties) <= MOST_PARTIES, f'a job has 1 to {MOST_PARTIES} parties')
 
 
-def write_job(folder, bits, parties, owners, circuit, name, layout, readers=None, tolerated=None, frames=None):
+def write_job(folder, bits, parties, owners, circuit, name, layout, readers=None, tolerated=None, frames=None, outputs=None):
     """Writes the folder of a job of one session, with its gates in layers. The readers read each output value, and the others nothing; where none are
-    named, they are those who own an input value. Where no tolerated groups are named, any two parties may know everything and one alone learns nothing."""
+    named, they are those who own an input value. Where no tolerated groups are named, any two parties may know everything and one alone learns nothing.
+    A text that is no circuit comes with how many output values it has."""
     need_names(parties)
     need(tolerated is not None or len(parties) > 2, 'where each party alone must learn nothing, a job wants three of them: one may help that '
          'gives and reads nothing')
-    outputs = int(circuit.split('\n', 3)[2].split()[0])
-    session = {'circuit': name, 'layout': layout, 'order': 'layers', 'owners': owners, 'readers': [readers or owners] * outputs}
+    outputs = int(circuit.split('\n', 3)[2].split()[0]) if outputs is None else outputs
+    order = {} if layout == NUMBERS else {'order': 'layers'}
+    session = {'circuit': name, 'layout': layout, **order, 'owners': owners, 'readers': [readers or list(dict.fromkeys(owners))] * outputs}
     fields = {'version': 2, 'ring_bits': bits, 'parties': parties, 'tolerated': [[party] for party in parties] if tolerated is None else tolerated,
               **({'frames': frames} if frames else {}), 'session': [session]}
     os.makedirs(folder, exist_ok=True)
@@ -202,7 +220,7 @@ def write_job(folder, bits, parties, owners, circuit, name, layout, readers=None
 
 def widths_of_numbers(job, session, widths):
     """How many bits each number of these values may have: a value of bits is one number, a value of words has one for each word."""
-    return [width for width in widths if width] if session.of_bits else [job.bits] * sum(widths)
+    return [width for width in widths if width] if session.layout in (BITS, NUMBERS) else [job.bits] * sum(widths)
 
 
 def numbers_of(job, party):
@@ -210,6 +228,15 @@ def numbers_of(job, party):
     need(party in job.parties, f'{party[:40]!r} is no party of the job: {", ".join(job.parties)}')
     return [widths_of_numbers(job, session, [width for width, owner in zip(session.inputs, session.owners) if owner == party])
             for session in job.sessions]
+
+
+def words_of(session, width, number):
+    """The words of a number of so many bits in a party's file."""
+    least, most = 0 if session.layout == NUMBERS else -2**(width - 1), 2**width - 1
+    need(least <= number <= most, f'{str(number)[:40]} does not fit into {width} bits: from {str(least)[:40]} to {str(most)[:40]}')
+    if session.layout == BITS:
+        return [number >> place & 1 for place in range(width)]
+    return [number % 2**width]
 
 
 def write_party(folder, job, party, numbers, replace=False):
@@ -220,11 +247,7 @@ def write_party(folder, job, party, numbers, replace=False):
     need(len(numbers) == count, f'{party} gives {count} numbers and not {len(numbers)}. Their bits are, in {told[:400]}')
     rest, texts = iter(numbers), []
     for session, its_widths in zip(job.sessions, widths):
-        words = []
-        for width, number in zip(its_widths, rest):
-            need(-2**(width - 1) <= number < 2**width, f'{str(number)[:40]} does not fit into {width} bits: '
-                 f'from {str(-2**(width - 1))[:40]} to {str(2**width - 1)[:40]}')
-            words += [number >> place & 1 for place in range(width)] if session.of_bits else [number % 2**width]
+        words = [word for width, number in zip(its_widths, rest) for word in words_of(session, width, number)]
         texts.append(' '.join(map(str, words)))
     text = f'version = 1\ninputs = {json.dumps(texts)}\nseed = "{secrets.token_hex(32)}"\n'
     write_new(folder, f'party_{party}.toml', text.encode(), 0o600, replace)
@@ -238,6 +261,16 @@ def lines_of(stream):
         yield line.decode('utf-8', 'replace')
 
 
+def numbers_in(job, session, width, words, signed):
+    """The numbers that the words of an output value stand for."""
+    if session.layout == NUMBERS:
+        return words
+    if session.layout == BITS:
+        words = [int(''.join(map(str, reversed(words))), 2)] if words else []
+    widths = widths_of_numbers(job, session, [width])
+    return [word - 2**bits if signed and word >> bits - 1 else word for word, bits in zip(words, widths)]
+
+
 def read_outputs(job, lines, signed=False):
     """Of each line that begins with 'out': the session, the output value, its reader and its numbers. Other lines are passed over."""
     for line in lines:
@@ -249,12 +282,11 @@ def read_outputs(job, lines, signed=False):
         number = number_in(tokens[0], len(job.sessions) - 1, what)
         session = job.sessions[number]
         value = number_in(tokens[1], len(session.outputs) - 1, what)
-        width, words = session.outputs[value], [number_in(token, 2**job.bits - 1, what) for token in tokens[3:]]
-        need(len(words) == width, what)
-        widths = widths_of_numbers(job, session, [width])
-        if session.of_bits:
-            words = [int(''.join(map(str, reversed(words))), 2)] if words else []
-        yield number, value, tokens[2], [word - 2**bits if signed and word >> bits - 1 else word for word, bits in zip(words, widths)]
+        width = session.outputs[value]
+        count, bits = (1, width) if session.layout == NUMBERS else (width, job.bits)
+        words = [number_in(token, 2**bits - 1, what) for token in tokens[3:]]
+        need(len(words) == count, what)
+        yield number, value, tokens[2], numbers_in(job, session, width, words, signed)
 
 
 def tell(text):

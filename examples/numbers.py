@@ -5,13 +5,14 @@
     ./mpc run JOB | examples/numbers.py read JOB [--signed] [--divide N | --divide-by VALUE]
 
 'write' makes JOB/party_PARTY.toml with a fresh random seed. The numbers are those that the party gives, session by session, and in
-each session in the order of the owners in job.toml: for 'bristol' one number for each value, of as many bits as the circuit's file
-says (bits stand least first); for 'ring' and 'expr' one for each word. A party that gives nothing has no numbers. A negative number counts
-modulo 2 to its bits (two's complement). A file that is there already is left alone, unless --replace is given.
+each session in the order of the owners in job.toml: for 'numbers' and 'bristol' one number for each value, of as many bits as the program
+or the circuit's file says (those of 'bristol' stand in the file bit by bit, least first); for 'ring' and 'expr' one for each word. A party that gives
+nothing has no numbers. A negative number counts modulo 2 to its bits (two's complement), but for 'numbers', which has none. A file that is there
+already is left alone, unless --replace is given.
 
 'read' takes what 'mpc run' or 'mpc node' writes from standard input, and passes over all lines but those that begin with 'out'. It
-writes a line for each of them: 'session 0 value 0: anna reads 2975'. With --signed, a number whose highest bit is 1 is negative; with
---divide, each number is divided by N and rounded to two places, so that the total of N numbers comes out as their mean.
+writes a line for each of them: 'session 0 value 0: anna reads 2975'. With --signed, a number whose highest bit is 1 is negative, but for
+'numbers'; with --divide, each number is divided by N and rounded to two places, so that the total of N numbers comes out as their mean.
 
 With --divide-by, each number is divided by another output value, which its reader reads too: VALUE is that one's number, as 1, or with its
 session before it, as 0.1. So a weighted total and the total of its weights come out as a weighted mean. Both numbers are opened: a

@@ -20,7 +20,7 @@ from job_counts import counts_of
 from job_folder import run_script
 
 WIDTH, MARGIN = 840, 24
-LAYOUTS = {'bristol': 'circuit of bits', 'ring': 'circuit of words', 'expr': 'expressions'}
+LAYOUTS = {'bristol': 'circuit of bits', 'ring': 'circuit of words', 'expr': 'expressions', 'numbers': 'program of numbers'}
 
 # What is said of gates that go in layers, and of products that are prepared, in turn or all masks ahead.
 OF_LAYERS = ', gates in layers'

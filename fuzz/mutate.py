@@ -40,7 +40,8 @@ LINES = [b'version = 1', b'version = 2', b'port = 65392', b'port = 0', b'hosts =
          b'formula = "1 of (a)"', b'[[session]]', b'[inputs]', b'products = "prepared"', b'products = "ahead"',
          b'order = "layers"', b'order = "file"', b'owners = ["@0.0", "@0.1"]', b'readers = [[], []]', b'inputs = []', b'tape = ""',
          b'seed = "' + b'0' * 64 + b'"', b'x = 1', b'"" = 1', b'a.b = 1', b'x = 1979-05-27', b'x = inf', b'x = """',
-         b'layout = "expr"', b'layout = "ring"', b'input x', b'let y = 2 * (x - 1)', b'let s = s', b'output x', b'output -(-1) * 3', b'output']
+         b'layout = "expr"', b'layout = "ring"', b'input x', b'let y = 2 * (x - 1)', b'let s = s', b'output x', b'output -(-1) * 3', b'output',
+         b'layout = "numbers"', b'input x 8', b'let z = if x < y then min(x, y) else x % 10 # z', b'output not x and y / 0 >= 1', b'input w 64']
 
 # What stands very often in a swollen text, and what closes it.
 PARTS = [(b'(', b''), (b'(', b')'), (b'[', b''), (b'[', b']'), (b'{', b''), (b'{a=', b'}'), (b'9', b''), (b'0', b''), (b'\n', b''), (b' ', b''),

@@ -19,14 +19,16 @@ import tempfile
 from audits import OF_C
 from product import PRODUCT
 from random_expressions import random_job
+from random_numbers import Job
 from rows import EXAMPLES, GROUPS
 from waits import MOST_SECONDS, told
 
 # Groups of rows that have jobs which are accepted.
 ACCEPTED = ['accepted', 'wide rings', 'tolerated', 'prepared', 'in layers', 'carried', 'expressions', 'parties', 'jobs']
 
-# So many jobs are random ones.
+# So many jobs of expressions are random ones, and so many of numbers.
 RANDOM_JOBS = 24
+RANDOM_NUMBERS = 8
 
 # Of a job with more groups than these, the smallest, the largest, and those of one party and of all but one are taken.
 MOST_GROUPS = 64
@@ -153,6 +155,14 @@ def audit_changes(program):
     return count
 
 
+def random_jobs():
+    """The files of random jobs, with what they are called."""
+    for number in range(RANDOM_JOBS):
+        yield f'random job {number}', random_job(random.Random(f'views {number}'))[0]
+    for number in range(RANDOM_NUMBERS):
+        yield f'random job {number} of numbers', Job(random.Random(f'views {number}')).files(False)
+
+
 def main(words):
     if len(words) != 2:
         sys.exit('usage: every_view.py PROGRAM')
@@ -165,10 +175,10 @@ def main(words):
             if row.words[0] == 'run' and row.status == 0:
                 count = audit_views(program, row.name, row.files())
                 jobs, views = jobs + (count > 0), views + count
-    for number in range(RANDOM_JOBS):
-        count = audit_views(program, f'random job {number}', random_job(random.Random(f'views {number}'))[0])
+    for name, files in random_jobs():
+        count = audit_views(program, name, files)
         if not count:
-            sys.exit(f'audits: random job {number} is refused')
+            sys.exit(f'audits: {name} is refused')
         jobs, views = jobs + 1, views + count
     for job in sorted(EXAMPLES.glob('**/job.toml')):
         if (job.parent / 'expected').exists():

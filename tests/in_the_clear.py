@@ -1,8 +1,10 @@
-"""What the circuits and the expressions of a job come to in the clear, from the words that its parties give: a reading of the files of its
-own, which has nothing of the program, and nothing of examples/expressions.py."""
+"""What the circuits, the expressions and the programs of a job come to in the clear, from the words that its parties give: a reading of the files of its
+own, which has nothing of the program, and nothing of the readers of examples/."""
 
 import json
 import re
+
+from number_programs import outputs_of, width_of
 
 OPERATE = {
     'ADD': lambda x, y: x + y,
@@ -96,23 +98,39 @@ def expression_values(data, given, bits):
     return outputs
 
 
+def number_of(bits):
+    """The number that has these bits, least first."""
+    return sum(bit << place for place, bit in enumerate(bits))
+
+
+def bits_of(number, width):
+    return [number >> place & 1 for place in range(width)]
+
+
+def program_values(data, given):
+    """The bits of the output values of a program of numbers, where each input takes the next number that its owner gives, or all the bits of a value that goes on."""
+    inputs = [number_of(words) if carried else int(next(words)) for words, carried in given]
+    return [bits_of(output.value, width_of(output)) for output in outputs_of(data, inputs)]
+
+
 def values_of(data, layout, given, bits):
-    """The widths of a circuit's output values, and their words one after another, where each input value takes the next words that its
-    owner gives."""
+    """The words of each output value of a session's file, where each input value takes the next words of its owner, which is a party or a value that goes on."""
+    if layout == 'numbers':
+        return program_values(data, given)
+    given = [words for words, _ in given]
     if layout == 'expr':
-        outputs = expression_values(data, given, bits)
-        return [1] * len(outputs), iter(outputs)
+        return [[word] for word in expression_values(data, given, bits)]
     circuit = circuit_of(data)
-    words = [int(next(owner)) for owner, width in zip(given, circuit[0]) for _ in range(width)]
-    return circuit[1], iter(last_wires(circuit, words, bits))
+    words = iter(last_wires(circuit, [int(next(owner)) for owner, width in zip(given, circuit[0]) for _ in range(width)], bits))
+    return [[next(words) for _ in range(width)] for width in circuit[1]]
 
 
 def words_from(owner, words, earlier):
-    """The words of an input value: those that a party gives, or an output value of one of the earlier sessions."""
+    """The words of an input value, those that a party gives, or an output value of one of the earlier sessions; and whether it is that."""
     if not owner.startswith('@'):
-        return words[owner]
+        return words[owner], False
     session, _, value = owner[1:].partition('.')
-    return iter(earlier[int(session)][int(value)])
+    return iter(earlier[int(session)][int(value)]), True
 
 
 def out_in_the_clear(files):
@@ -123,9 +141,8 @@ def out_in_the_clear(files):
     for number, session in enumerate(sessions):
         words = {name: iter(texts[number].split()) for name, texts in inputs.items()}
         given = [words_from(owner, words, earlier) for owner in session['owners']]
-        widths, values = values_of(files[session['circuit']], session['layout'], given, top['ring_bits'])
-        earlier.append([[next(values) for _ in range(width)] for width in widths])
+        earlier.append(values_of(files[session['circuit']], session['layout'], given, top['ring_bits']))
         for value, (its_words, readers) in enumerate(zip(earlier[-1], session['readers'])):
-            text = ''.join(f' {word}' for word in its_words)
+            text = ''.join(f' {word}' for word in ([number_of(its_words)] if session['layout'] == 'numbers' else its_words))
             out += ''.join(f'out {number} {value} {name}{text}\n' for name in top['parties'] if name in readers)
     return out

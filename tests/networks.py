@@ -2,7 +2,7 @@
 """Runs the nodes of all parties of a job beside one another, over pipes in memory: networks.py PIPE_NODES
 
 The nodes of each accepted small job and of each example must write what its circuits come to in the clear, and those of random expressions
-what Python comes to, and so must the nodes of their circuits. Of three nodes, where one has another job, can't send to another after any byte, or
+what Python comes to, and so must the nodes of their circuits, and those of random programs of numbers. Of three nodes, where one has another job, can't send to another after any byte, or
 is heard wrong, all must end, with a line each. A node that hears nothing of its first peer before the second one has said all must still end well.
 Ends with status 1, and tells why, where nodes end otherwise.
 
@@ -27,10 +27,12 @@ from accepted_runs import ACCEPTED  # noqa: E402
 from carried_runs import CARRIED_RUNS  # noqa: E402
 from expressions import EXPR, EXPRESSIONS, SQUARE_OF_A_SUM  # noqa: E402
 from in_the_clear import fields, out_in_the_clear  # noqa: E402
+from number_runs import NUMBER_RUNS  # noqa: E402
 from ordered_runs import ORDERED_RUNS  # noqa: E402
 from prepared_runs import PREPARED_RUNS  # noqa: E402
 from product import Edit, Whole, product_with  # noqa: E402
 from random_expressions import random_job, with_circuits  # noqa: E402
+from random_numbers import Job  # noqa: E402
 from tolerated_runs import TOLERATED  # noqa: E402
 from views import lines_with  # noqa: E402
 from waits import MOST_SECONDS, told  # noqa: E402
@@ -125,7 +127,7 @@ def expect_faults(ended, begins):
 
 
 def accepted_jobs(program):
-    for row in [*ACCEPTED, *WIDE_RINGS, *TOLERATED, *PREPARED_RUNS, *ORDERED_RUNS, *CARRIED_RUNS, *EXPRESSIONS]:
+    for row in [*ACCEPTED, *WIDE_RINGS, *TOLERATED, *PREPARED_RUNS, *ORDERED_RUNS, *CARRIED_RUNS, *EXPRESSIONS, *NUMBER_RUNS]:
         if row.out.startswith('out ') and '--view' not in row.words and len(row.out) <= MOST_WRITTEN:
             for files in of_both_forms(row.files()):
                 expect_written(files, run(program, files))
@@ -139,6 +141,13 @@ def random_expressions(program):
         for its_files in of_both_forms(files):
             expect_written(its_files, run(program, its_files))
         expect_written(files, run(program, with_circuits(files)))
+
+
+def random_numbers(program):
+    for number in range(RANDOM_JOBS):
+        job = Job(random.Random(number))
+        for files in of_both_forms(job.files(False)):
+            expect_written(files, run(program, files))
 
 
 def examples(program):
@@ -254,7 +263,7 @@ def one_that_hears_its_second_peer_first(program):
         expect_written(files, run(program, files, room=LARGE, flaw=('held', HELLO + SAID_BY_B * length, 0, 2)))
 
 
-CASES = [accepted_jobs, random_expressions, examples, views_of_their_own, one_with_another_job, one_with_other_blanks_in_its_expressions, one_that_can_not_send,
+CASES = [accepted_jobs, random_expressions, random_numbers, examples, views_of_their_own, one_with_another_job, one_with_other_blanks_in_its_expressions, one_that_can_not_send,
          one_that_hears_another_frame, one_that_hears_its_second_peer_first]
 
 

@@ -254,9 +254,9 @@ def expect_values(program, chance, top, files, out):
     expect_same(program, folders, 'pair', '--group', some_group(chance, parties))
 
 
-def put_piece(data, chance):
+def put_piece(data, chance, pieces=PIECES):
     place = chance.randrange(len(data) + 1)
-    return data[:place] + chance.choice(PIECES) + data[place:]
+    return data[:place] + chance.choice(pieces) + data[place:]
 
 
 def put_word(data, chance):
@@ -304,19 +304,25 @@ def what_is_wrong(program, seed, number):
     return None
 
 
-def main(words):
+def all_tries(words, wrong_of, what):
+    """Makes so many tries as the words say, and tells the first that went wrong, or what all of them came to."""
+    name = os.path.basename(words[0]).removesuffix('.py')
     if len(words) not in (3, 4) or not all(word.isdecimal() for word in words[2:]):
-        sys.exit('usage: random_expressions.py PROGRAM COUNT [SEED]')
+        sys.exit(f'usage: {name}.py PROGRAM COUNT [SEED]')
     program, count, seed = shutil.which(os.path.abspath(words[1])), int(words[2]), int(words[3]) if len(words) == 4 else 0
     if not program:
-        sys.exit(f'random_expressions: there is no program {words[1]}')
+        sys.exit(f'{name}: there is no program {words[1]}')
     with concurrent.futures.ThreadPoolExecutor(4) as pool:
-        for wrong in pool.map(lambda number: what_is_wrong(program, seed, number), range(count)):
+        for wrong in pool.map(lambda number: wrong_of(program, seed, number), range(count)):
             if wrong:
                 pool.shutdown(cancel_futures=True)
-                sys.exit(f'random_expressions: {wrong}')
-    print(f'random_expressions: {count} jobs write what Python comes to, and the same as their circuits')
+                sys.exit(f'{name}: {wrong}')
+    print(f'{name}: {count} jobs {what}')
     return 0
+
+
+def main(words):
+    return all_tries(words, what_is_wrong, 'write what Python comes to, and the same as their circuits')
 
 
 if __name__ == '__main__':

@@ -34,9 +34,6 @@ def learned(name):
     return f'{name} reads: boris wins and pays 2975\n'
 
 
-# The files of four parties.
-WRITTEN = 'for name in ann=1250 bob=3400 cleo=2975 dan=810; do examples/numbers.py write {} ${{name%=*}} ${{name#*=}}; done'
-
 # What each command writes, as a pattern; a command that isn't a row of its own fails.
 ROWS = {
     './mpc run examples/multiply': 'out 0 0 c 35\n',
@@ -49,21 +46,19 @@ ROWS = {
     'examples/network/nodes.py split examples/network my-network': '(.*\n)*',
     **{f'./mpc node my-network/{name} {name} | examples/auction/job.py read my-network/{name}': learned(name) for name in ('anna', 'boris', 'chen')},
     'examples/network/nodes.py compare my-network/*': '(.*\n)*all 3 have the same job\n',
-    'cp -r examples/tariff my-job': '',
+    'examples/programs.py job my-bids examples/sealed_bids/bids.txt': '',
+    'examples/numbers.py write my-bids anna 1250': '',
+    'cp -r examples/sealed_bids my-job': '',
     "od -An -tx1 -N32 /dev/urandom | tr -d ' \\n'": '[0-9a-f]{64}',
-    './mpc check my-job': example('tariff/expected_check'),
-    './mpc run my-job': example('tariff/expected'),
+    './mpc check my-job': example('sealed_bids/expected_check'),
+    './mpc run my-job': example('sealed_bids/expected'),
     'examples/picture.py my-job > my-job.svg': '',
-    './mpc pair my-job --group grid': 'first\n(.*\n)*second\n(.*\n)*tape mill .*\ntape grid .*\ntape notary .*\n',
+    './mpc pair my-job --group dora': 'first\n(.*\n)*second\n(.*\n)*tape anna .*\ntape boris .*\ntape chen .*\ntape dora .*\ntape emil .*\n',
     './mpc audit examples/audit': 'yes [1-9][0-9]*\n',
-    'examples/circuits.py job my-mean total 32 ann bob cleo dan': '(.*\n)*',
-    WRITTEN.format('my-mean'): '(.*\n)*',
-    './mpc run my-mean | examples/numbers.py read my-mean --divide 4': '(.* 2108[.]75\n){4}',
-    'examples/circuits.py job my-maximum greatest 16 ann bob cleo dan': '(.*\n)*',
 }
 
 # What the text says of them.
-SAID = ['`out 0 0 c 35`', '`anna reads: boris wins and pays 2975`', 'Each of the four reads 2108.75.']
+SAID = ['`out 0 0 c 35`', '`anna reads: boris wins and pays 2975`']
 
 
 def commands(text):

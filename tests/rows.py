@@ -25,6 +25,7 @@ from in_the_clear import out_in_the_clear
 from job_faults import JOB_FAULTS
 from job_files import JOB_FILES
 from made_rows import LONG_FORMULAS, LONG_JOBS, LONG_LISTS, front_rows, ring_rows, worker_rows
+from number_runs import FAULTY_PARTIES, NUMBER_FAULTS, NUMBER_RUNS
 from ordered_runs import ORDERED_RUNS
 from other_words import OTHER_WORDS
 from pairs import OTHER_FAULTS, PAIR_FAULTS, PAIRS
@@ -57,6 +58,9 @@ GROUPS = {
     'fronts of a circuit': list(front_rows()),
     'expressions': EXPRESSIONS,
     'faulty expressions': FAULTY_EXPRESSIONS,
+    'numbers': NUMBER_RUNS,
+    'faulty numbers': NUMBER_FAULTS,
+    'parties that give numbers': FAULTY_PARTIES,
     'parties': [*PARTY_FAULTS, *REFUSED_FILES, *ACCEPTED_FILES],
     'views': VIEWS,
     'other groups': OTHER_GROUPS,
@@ -72,7 +76,7 @@ GROUPS = {
 }
 
 # Those of which each run that writes outputs is computed in the clear.
-IN_THE_CLEAR = ['accepted', 'wide rings', 'tolerated', 'prepared', 'in layers', 'carried', 'carried widths', 'expressions']
+IN_THE_CLEAR = ['accepted', 'wide rings', 'tolerated', 'prepared', 'in layers', 'carried', 'carried widths', 'expressions', 'numbers']
 
 
 def call(program, row):

@@ -33,8 +33,10 @@ import job_folder  # noqa: E402
 from aes_circuit import boxes  # noqa: E402
 from circuits import CALLS, Circuit, circuit_of as circuit_file  # noqa: E402
 from expressions import EXPRESSIONS, FAULTY_EXPRESSIONS  # noqa: E402
-from in_the_clear import circuit_of, fields as fields_of, last_wires, out_in_the_clear  # noqa: E402
+from in_the_clear import bits_of, circuit_of, fields as fields_of, last_wires, number_of, out_in_the_clear  # noqa: E402
 from mutate import CHANGES  # noqa: E402
+from number_programs import input_widths, outputs_of  # noqa: E402
+from number_runs import NUMBER_FAULTS, NUMBER_RUNS  # noqa: E402
 from odd_folders import ODD_FOLDERS  # noqa: E402
 from orders import sorted_lines  # noqa: E402
 from product import SESSION, product_with  # noqa: E402
@@ -44,6 +46,8 @@ from waits import MOST_SECONDS, told  # noqa: E402
 # (it puts the scripts of examples/ before those of this folder)
 import drawing  # noqa: E402
 import nodes  # noqa: E402
+import number_circuit  # noqa: E402
+import number_reader  # noqa: E402
 import secured  # noqa: E402
 import job_counts  # noqa: E402
 import pictures  # noqa: E402
@@ -51,7 +55,7 @@ import summands  # noqa: E402
 
 NUMBERS, CIRCUITS, EXPRESSIONS_SCRIPT = (EXAMPLES / name for name in ('numbers.py', 'circuits.py', 'expressions.py'))
 AUCTION, SPREAD, NODES = EXAMPLES / 'auction/job.py', EXAMPLES / 'statistics/spread.py', EXAMPLES / 'network/nodes.py'
-BY_LAYERS, PICTURE, UNPROVED = EXAMPLES / 'by_layers.py', EXAMPLES / 'picture.py', EXAMPLES / 'unproved.py'
+BY_LAYERS, PICTURE, UNPROVED, PROGRAMS = EXAMPLES / 'by_layers.py', EXAMPLES / 'picture.py', EXAMPLES / 'unproved.py', EXAMPLES / 'programs.py'
 AES, AES_CIRCUIT = EXAMPLES / 'aes/job.py', EXAMPLES / 'aes/aes_circuit.py'
 INPUTS = 2_000
 MUTATED = 1_000
@@ -583,6 +587,76 @@ def expressions_are_refused_in_one_line(program, top):
         expect_one_line(call(EXPRESSIONS_SCRIPT, 'compile', *words), f'expressions.py compile {words}', 'expressions.py: ')
 
 
+# Programs of numbers.
+
+def refusals_of_numbers_are_those_of_the_rows(program, top):
+    for row in NUMBER_FAULTS:
+        files, due = row.files(), re.fullmatch(r'refused numbers (.*) file=mul\.txt session=0(.*)\n', row.err)
+        if due and len(files['mul.txt']) < LONG:
+            try:
+                number_circuit.compiled(files['mul.txt'])
+                found = ''
+            except number_reader.Fault as fault:
+                found = str(fault)
+            expect(found == due[1] + due[2], f'{row.name}: {found!r} in place of {row.err!r}')
+
+
+def circuits_of_numbers_come_to_the_rows(program, top):
+    """The circuit of each program gives the bits of its outputs."""
+    count = 0
+    for row in NUMBER_RUNS:
+        files = row.files()
+        sessions = fields_of(files['job.toml'])[1]
+        if len(sessions) == 1 and len(row.out) < LONG:
+            texts = {name: iter(fields_of(files[f'party_{name}.toml'])[0]['inputs'][0].split()) for name in 'abc'}
+            data, given = files['mul.txt'], [int(next(texts[owner])) for owner in sessions[0]['owners']]
+            circuit = circuit_of(number_circuit.compiled(data).encode())
+            words = iter(last_wires(circuit, [bit for number, width in zip(given, input_widths(data)) for bit in bits_of(number, width)], 1))
+            found = [number_of([next(words) for _ in range(width)]) for width in circuit[1]]
+            expect(found == [output.value for output in outputs_of(data, given)], f'{row.name}: its circuit comes to {str(found)[:100]}')
+            count += 1
+    expect(count > 150, f'{count} circuits')
+
+
+def programs_are_refused_in_one_line(program, top):
+    path = os.path.join(top, 'p.txt')
+    for text, line in [(b'output x', ': 3 UnknownName line=1 at=7\n'), (b'\xff', ': 1 NotUtf8 at=0\n'), (1_025 * b'output 1\n', ': 7 TooLarge\n'),
+                       (b'output 1 - 1', ': 2 Syntax line=1 at=9\n'), (b'\n' * 16_777_217, ' has more than 16777216 bytes\n')]:
+        pathlib.Path(path).write_bytes(text)
+        done = call(PROGRAMS, 'compile', path)
+        expect_one_line(done, f'programs.py of {text[:20]!r}', f'programs.py: {path}')
+        expect(done.stderr.decode().endswith(line), f'{done.stderr}')
+    for words in [[top], [path + '.none'], ['']]:
+        expect_one_line(call(PROGRAMS, 'compile', *words), f'programs.py compile {words}', 'programs.py: ')
+    pathlib.Path(path).write_bytes(b'input x 64\ninput y 64\nlet q = x / y\noutput q % y')
+    expect_one_line(call(PROGRAMS, 'compile', path), 'a large program', f'programs.py: {path}: 7 TooLarge')
+    expect(wrote(PROGRAMS, 'compile', path, '--large').startswith('119552 119680\n2 64 64\n1 64\n'), 'another large circuit')
+
+
+def programs_have_numbers(program, top):
+    """The words of a session of numbers are one number for each value, written and read as they are."""
+    folder = write_folder(top, {'f.txt': b'input x 8 # of a\ninput y 16\ninput z 64\noutput x + y\noutput x < y\n'})
+    session = {'circuit': 'f.txt', 'layout': 'numbers', 'owners': ['a', 'b', 'a'], 'readers': [['c'], ['a', 'b']]}
+    fields = {'version': 2, 'ring_bits': 1, 'parties': ['a', 'b', 'c'], 'tolerated': [['a'], ['b'], ['c']], 'session': [session]}
+    pathlib.Path(folder, 'job.toml').write_text(job_folder.job_text(fields))
+    job = job_folder.read_job(folder)
+    expect(job.sessions[0].inputs == [8, 16, 64] and job.sessions[0].outputs == [17, 1], f'{job}')
+    wrote(NUMBERS, 'write', folder, 'a', '255', 2**64 - 1)
+    wrote(NUMBERS, 'write', folder, 'b', '0300')
+    wrote(NUMBERS, 'write', folder, 'c')
+    for party, text in [('a', '255 18446744073709551615'), ('b', '300'), ('c', '')]:
+        expect(f'inputs = ["{text}"]' in pathlib.Path(folder, f'party_{party}.toml').read_text(), f'other words of {party}')
+    for words in [['a', '256', '1'], ['a', '-1', '1'], ['a', '1'], ['b', '65536'], ['c', '1']]:
+        expect_one_line(call(NUMBERS, 'write', folder, *words, '--replace'), f'numbers.py write {words}', 'numbers.py: ')
+    for options in ([], ['--signed']):
+        found = wrote(NUMBERS, 'read', folder, *options, given='out 0 0 c 131071\nout 0 1 a 1\nout 0 1 b 1\n')
+        expect(found == 'session 0 value 0: c reads 131071\nsession 0 value 1: a reads 1\nsession 0 value 1: b reads 1\n', found)
+    for line in ['out 0 0 c 131072', 'out 0 0 c 1 1', 'out 0 0 c', 'out 0 1 a 2', 'out 0 2 a 1']:
+        expect_one_line(call(NUMBERS, 'read', folder, given=line + '\n'), line, 'numbers.py: ')
+    found = job_counts.counts_of(folder).sessions[0]
+    expect((found.layout, found.order, found.gates) == ('numbers', 'layers', int(wrote(PROGRAMS, 'compile', os.path.join(folder, 'f.txt')).split()[0])), f'{found}')
+
+
 # Whole jobs.
 
 def an_auction_of_two(program, top):
@@ -605,6 +679,28 @@ def jobs_of_calls(program, top):
         expect(done.returncode == 0, f'{name}: {done.stderr}')
         found = wrote(NUMBERS, 'read', folder, given=done.stdout)
         expect(found == ''.join(f'session 0 value 0: {party} reads {expected}\n' for party in parties[:len(given)]), f'{name}: {found}')
+
+
+def jobs_of_programs(program, top):
+    """The folder of a program's job, in which each input is given by the party of its name or by a named one."""
+    bids = {'anna': 1250, 'boris': 60000, 'chen': 2975, 'dora': 810, 'emil': 60000}
+    wages = [3000, 2999, 4100, 2500, 2400]
+    for name, example, options, given, expected in [
+            ('bids', 'sealed_bids/bids.txt', [], {name: [bid] for name, bid in bids.items()}, [1, 60000]),
+            ('wages', 'survey/wages.txt', ['--owners', 'a,b,a,c,b'], {'a': [3000, 4100], 'b': [2999, 2400], 'c': [2500]}, [sum(wages) // 5, 2, 4100, 0]),
+            ('richer', 'richer/richer.txt', ['--helper', 'clerk'], {'ann': [5], 'bob': [5]}, [0])]:
+        folder = os.path.join(top, name)
+        wrote(PROGRAMS, 'job', folder, EXAMPLES / example, *options)
+        for party, numbers in [*given.items(), *([('clerk', [])] if '--helper' in options else [])]:
+            wrote(NUMBERS, 'write', folder, party, *numbers)
+        done = subprocess.run([program, 'run', folder], capture_output=True, text=True, timeout=MOST_SECONDS)
+        found = wrote(NUMBERS, 'read', folder, given=done.stdout)
+        due = ''.join(f'session 0 value {value}: {party} reads {number}\n' for value, number in enumerate(expected) for party in given)
+        expect(found == due, f'{name}: {done.stderr} {found}')
+    for words in [[EXAMPLES / 'richer/richer.txt'], [EXAMPLES / 'richer/richer.txt', '--owners', 'a'], [EXAMPLES / 'tariff/price.txt'], [top], [EXAMPLES / 'none.txt'],
+                  [EXAMPLES / 'survey/wages.txt', '--tolerated', 'ann+bob+cleo,dan+eve']]:
+        expect_one_line(call(PROGRAMS, 'job', os.path.join(top, 'none'), *words), f'programs.py job {words}', 'programs.py: ')
+    expect(not os.path.exists(os.path.join(top, 'none')), 'a folder is left')
 
 
 def jobs_with_helpers(program, top):
@@ -1016,6 +1112,8 @@ OTHER_WORDS = [(NUMBERS, words) for words in ([], ['write'], ['write', 'j'], ['r
     (CIRCUITS, []), (CIRCUITS, ['job']), (CIRCUITS, ['job', 'f']), (CIRCUITS, ['job', 'f', 'total', '8', 'a', '--helper']),
     (CIRCUITS, ['job', 'f', 'total', '8', 'a', '--tolerated', 'a', '--tolerated', 'b']), (EXPRESSIONS_SCRIPT, []), (EXPRESSIONS_SCRIPT, ['compile', 'f']), (AUCTION, []), (AUCTION, ['read']), (AUCTION, ['make']),
     (BY_LAYERS, []), (BY_LAYERS, ['a', 'b', 'c', 'd']), (PICTURE, []), (UNPROVED, []), (UNPROVED, ['j', '--views', 'a']), (AES, []), (AES, ['make', 'f', '0' * 32]), (AES, ['read']), (AES_CIRCUIT, ['f']),
+    (PROGRAMS, []), (PROGRAMS, ['compile']), (PROGRAMS, ['compile', 'f', '--small']), (PROGRAMS, ['job', 'f']), (PROGRAMS, ['job', 'f', 'g', '--owners']),
+    (PROGRAMS, ['job', 'f', 'g', '--bits', '8']),
     (NODES, []), (NODES, ['run']), (NODES, ['compare']), (NODES, ['wait', 'j']), (NODES, ['split', 'j']), (NODES, ['split', 'j', 'f', '--hosts', 'h'])] + [
     (NODES, words) for words in (['run', 'j', '--view'], ['run', 'j', '--frames'], ['run', 'j', '--hosts', 'h'], ['run', 'j', '--frames', 'short', '--frames', 'short'],
                                  ['compare', 'j', '--frames', 'short'], ['wait', 'j', 'n', '--views', 'own'], ['split', 'j', 'f', '--port', '1'],
@@ -1024,7 +1122,7 @@ OTHER_WORDS = [(NUMBERS, words) for words in ([], ['write'], ['write', 'j'], ['r
 
 
 def helps_are_there(program, top):
-    for script in (NUMBERS, CIRCUITS, BY_LAYERS, PICTURE, UNPROVED, EXPRESSIONS_SCRIPT, AUCTION, SPREAD, AES, AES_CIRCUIT, NODES):
+    for script in (NUMBERS, CIRCUITS, BY_LAYERS, PICTURE, UNPROVED, EXPRESSIONS_SCRIPT, PROGRAMS, AUCTION, SPREAD, AES, AES_CIRCUIT, NODES):
         expect(script.name in wrote(script, '--help'), f'no help of {script.name}')
         expect(os.access(script, os.X_OK), f'{script} is no program')
     for script, words in OTHER_WORDS:
@@ -1036,7 +1134,8 @@ CASES = [circuits_are_their_numbers, rounds_in_layers_are_few, s_boxes_are_the_s
          circuits_have_limits, numbers_come_back, numbers_are_signed_and_divided, numbers_that_do_not_fit, other_lines_are_refused,
          views_are_passed_over, outputs_that_fail, programs_that_are_not_there, programs_that_are_late, a_gate_that_is_late, odd_folders, links_and_folders,
          changed_jobs_are_read_or_refused, expressions_are_words, refusals_are_those_of_the_rows,
-         circuits_come_to_the_rows, examples_have_their_circuits, expressions_are_refused_in_one_line, an_auction_of_two, jobs_of_calls,
+         circuits_come_to_the_rows, examples_have_their_circuits, expressions_are_refused_in_one_line, refusals_of_numbers_are_those_of_the_rows,
+         circuits_of_numbers_come_to_the_rows, programs_are_refused_in_one_line, programs_have_numbers, an_auction_of_two, jobs_of_calls, jobs_of_programs,
          jobs_with_helpers, numbers_are_divided_by_values, doubts_are_told, formulas_are_those_of_the_rows, pictures_count_what_runs_send,
          the_product_is_the_examples, jobs_are_drawn, an_unproved_run, ports_of_the_job_are_taken,
          nodes_beside_one_another, a_node_that_fails_stops_the_others, a_node_that_waits_is_told, nodes_are_split,

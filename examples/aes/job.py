@@ -16,7 +16,7 @@ import sys
 
 sys.path.insert(0, str(pathlib.Path(__file__).resolve().parent.parent))
 from aes_circuit import circuit_text  # noqa: E402
-from job_folder import lines_of, need, read_job, read_outputs, run_script, write_job, write_party  # noqa: E402
+from job_folder import BITS, lines_of, need, read_job, read_outputs, run_script, write_job, write_party  # noqa: E402
 
 PARTIES = ['registry', 'hospital', 'study']
 DIGITS = 32
@@ -37,7 +37,7 @@ def make(folder, words):
 
 def read(folder):
     job = read_job(folder)
-    need(all(session.of_bits and session.outputs == [4 * DIGITS] for session in job.sessions), f'{os.path.join(folder, "job.toml")} encrypts no block')
+    need(all(session.layout == BITS and session.outputs == [4 * DIGITS] for session in job.sessions), f'{os.path.join(folder, "job.toml")} encrypts no block')
     texts = [f'{reader} reads {block:0{DIGITS}x}' for _session, _value, reader, [block] in read_outputs(job, lines_of(sys.stdin))]
     need(texts, 'there is no result to read on standard input')
     print('\n'.join(texts))

@@ -18,7 +18,7 @@ import sys
 sys.path[1:1] = [str(pathlib.Path(__file__).resolve().parent.parent)]
 from cut import Job  # noqa: E402
 from circuit_reader import read_circuit  # noqa: E402
-from job_folder import lines_of, need, read_job, read_outputs, run_script, write_party  # noqa: E402
+from job_folder import BITS, lines_of, need, read_job, read_outputs, run_script, write_party  # noqa: E402
 from sha256_circuit import MOST_BYTES, Chain, Tree, circuit_text  # noqa: E402
 from summands import Sharing  # noqa: E402
 
@@ -47,7 +47,7 @@ def make(folder, words, adder):
 def read(folder):
     job = read_job(folder)
     digests = [width for session in job.sessions for width, readers in zip(session.outputs, session.readers) if readers]
-    need(all(session.of_bits for session in job.sessions) and digests == [4 * DIGITS], f'{os.path.join(folder, "job.toml")} takes no digest')
+    need(all(session.layout == BITS for session in job.sessions) and digests == [4 * DIGITS], f'{os.path.join(folder, "job.toml")} takes no digest')
     texts = [f'{reader} reads {digest:0{DIGITS}x}' for _session, _value, reader, [digest] in read_outputs(job, lines_of(sys.stdin))]
     need(texts, 'there is no result to read on standard input')
     print('\n'.join(texts))
